@@ -10,8 +10,8 @@ use Rattle.machine.specs.Walk.{walk_rule, unlabelled}
 use Rattle.machine.proofs.Way.{c_walk, c_act, c_ret, c_seq, c_yes, c_no, c_fn, way}
 use Rattle.steps.proofs.Steps.{c_ret_yes, c_ret_no}
 use Rattle.grammar.proofs.cell_rest.Reads as reads
-use Rattle.grammar.proofs.+bits_branch_cell_rest_cells_cond_branches_and_end_dt_cell_list_dt_node_body_dt_property_eat_cell_eat_inside_eat_node_or_prop_eat_pp_directive_item_item_rest_node_propvalues_value_value_rest.Lts-cell_rest as lts
-use Rattle.grammar.proofs.+bits_branch_cell_rest_cells_cond_branches_and_end_dt_cell_list_dt_node_body_dt_property_eat_cell_eat_inside_eat_node_or_prop_eat_pp_directive_item_item_rest_node_propvalues_value_value_rest.Proof.Measures.{cell_rest_at, cell_rest_claims}
+use Rattle.grammar.proofs.+grammar.Lts-cell_rest as lts
+use Rattle.grammar.proofs.+grammar.Proof.Measures.{cell_rest_at, cell_rest_claims}
 
 pub eat-dts-include-requires : (t : ℕ) → lts.Need-eat-dts-include-requires (cell_rest_claims t) (cell_rest_at t) reads.Post
 eat-dts-include-requires t c κs = tt

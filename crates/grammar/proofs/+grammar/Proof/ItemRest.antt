@@ -8,8 +8,8 @@ use Rattle.definitions.specs.Check.{silent}
 use Rattle.machine.specs.Walk.{walk_rule, unlabelled}
 use Rattle.machine.proofs.Way.{c_walk, c_act, c_ret, c_yes, c_no, c_fn, way}
 use Rattle.grammar.proofs.item_rest.Reads as reads
-use Rattle.grammar.proofs.+bits_branch_cell_rest_cells_cond_branches_and_end_dt_cell_list_dt_node_body_dt_property_eat_cell_eat_inside_eat_node_or_prop_eat_pp_directive_item_item_rest_node_propvalues_value_value_rest.Lts-item_rest as lts
-use Rattle.grammar.proofs.+bits_branch_cell_rest_cells_cond_branches_and_end_dt_cell_list_dt_node_body_dt_property_eat_cell_eat_inside_eat_node_or_prop_eat_pp_directive_item_item_rest_node_propvalues_value_value_rest.Proof.Measures.{item_rest_at, item_rest_claims}
+use Rattle.grammar.proofs.+grammar.Lts-item_rest as lts
+use Rattle.grammar.proofs.+grammar.Proof.Measures.{item_rest_at, item_rest_claims}
 
 pub silent-at-requires : (t : ℕ) → lts.Need-silent-at-requires (item_rest_claims t) (item_rest_at t) reads.Post
 silent-at-requires t c κs = tt

@@ -12,8 +12,8 @@ use Rattle.steps.specs.View.{took_unless_no}
 use Rattle.steps.proofs.Steps.{c_said_no, c_said_also, closing, ignored}
 use Rattle.grammar.proofs.Ways.{c_same, c_said_other, unless_no_other}
 use Rattle.grammar.proofs.eat_node_or_prop.Reads as reads
-use Rattle.grammar.proofs.+bits_branch_cell_rest_cells_cond_branches_and_end_dt_cell_list_dt_node_body_dt_property_eat_cell_eat_inside_eat_node_or_prop_eat_pp_directive_item_item_rest_node_propvalues_value_value_rest.Lts-eat_node_or_prop as lts
-use Rattle.grammar.proofs.+bits_branch_cell_rest_cells_cond_branches_and_end_dt_cell_list_dt_node_body_dt_property_eat_cell_eat_inside_eat_node_or_prop_eat_pp_directive_item_item_rest_node_propvalues_value_value_rest.Proof.Measures.{eat_node_or_prop_at, eat_node_or_prop_claims}
+use Rattle.grammar.proofs.+grammar.Lts-eat_node_or_prop as lts
+use Rattle.grammar.proofs.+grammar.Proof.Measures.{eat_node_or_prop_at, eat_node_or_prop_claims}
 
 pub new-requires : (t : ℕ) → lts.Need-new-requires (eat_node_or_prop_claims t) (eat_node_or_prop_at t) reads.Post
 new-requires t c κs = tt

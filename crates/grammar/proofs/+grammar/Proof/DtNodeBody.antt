@@ -14,8 +14,8 @@ use Rattle.steps.proofs.Left.{ahead_falls}
 use Rattle.steps.proofs.Steps.{c_brace, c_any, closing}
 use Rattle.grammar.proofs.Ways.{c_prog, c_call_on, closes, again_prog, last_yes}
 use Rattle.grammar.proofs.dt_node_body.Reads as reads
-use Rattle.grammar.proofs.+bits_branch_cell_rest_cells_cond_branches_and_end_dt_cell_list_dt_node_body_dt_property_eat_cell_eat_inside_eat_node_or_prop_eat_pp_directive_item_item_rest_node_propvalues_value_value_rest.Lts-dt_node_body as lts
-use Rattle.grammar.proofs.+bits_branch_cell_rest_cells_cond_branches_and_end_dt_cell_list_dt_node_body_dt_property_eat_cell_eat_inside_eat_node_or_prop_eat_pp_directive_item_item_rest_node_propvalues_value_value_rest.Proof.Measures.{dt_node_body_at, dt_node_body_claims}
+use Rattle.grammar.proofs.+grammar.Lts-dt_node_body as lts
+use Rattle.grammar.proofs.+grammar.Proof.Measures.{dt_node_body_at, dt_node_body_claims}
 
 -- the loop from here is the loop from the start
 abbrev pub Inv_loop : lts.invariant-loop

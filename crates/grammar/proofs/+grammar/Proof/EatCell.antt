@@ -13,8 +13,8 @@ use Rattle.machine.proofs.Way.{c_walk, c_act, c_ret, c_seq, c_yes, c_no, c_fn, w
 use Rattle.steps.proofs.Steps.{c_ret_yes}
 use Rattle.grammar.proofs.Laws.{cell_body_is}
 use Rattle.grammar.proofs.eat_cell.Reads as reads
-use Rattle.grammar.proofs.+bits_branch_cell_rest_cells_cond_branches_and_end_dt_cell_list_dt_node_body_dt_property_eat_cell_eat_inside_eat_node_or_prop_eat_pp_directive_item_item_rest_node_propvalues_value_value_rest.Lts-eat_cell as lts
-use Rattle.grammar.proofs.+bits_branch_cell_rest_cells_cond_branches_and_end_dt_cell_list_dt_node_body_dt_property_eat_cell_eat_inside_eat_node_or_prop_eat_pp_directive_item_item_rest_node_propvalues_value_value_rest.Proof.Measures.{eat_cell_at, eat_cell_claims}
+use Rattle.grammar.proofs.+grammar.Lts-eat_cell as lts
+use Rattle.grammar.proofs.+grammar.Proof.Measures.{eat_cell_at, eat_cell_claims}
 
 pub refuse-requires : (t : ℕ) → lts.Need-refuse-requires (eat_cell_claims t) (eat_cell_at t) reads.Post
 refuse-requires t c κs = tt

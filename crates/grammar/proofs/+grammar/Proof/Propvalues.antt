@@ -15,8 +15,8 @@ use Rattle.steps.proofs.Left.{ahead_falls}
 use Rattle.steps.proofs.Steps.{c_said_no, c_said_also}
 use Rattle.grammar.proofs.Ways.{again_prog, last_yes, last_no, as_yes, c_said_other, other_no, c_answered}
 use Rattle.grammar.proofs.propvalues.Reads as reads
-use Rattle.grammar.proofs.+bits_branch_cell_rest_cells_cond_branches_and_end_dt_cell_list_dt_node_body_dt_property_eat_cell_eat_inside_eat_node_or_prop_eat_pp_directive_item_item_rest_node_propvalues_value_value_rest.Lts-propvalues as lts
-use Rattle.grammar.proofs.+bits_branch_cell_rest_cells_cond_branches_and_end_dt_cell_list_dt_node_body_dt_property_eat_cell_eat_inside_eat_node_or_prop_eat_pp_directive_item_item_rest_node_propvalues_value_value_rest.Proof.Measures.{propvalues_at, propvalues_claims}
+use Rattle.grammar.proofs.+grammar.Lts-propvalues as lts
+use Rattle.grammar.proofs.+grammar.Proof.Measures.{propvalues_at, propvalues_claims}
 
 -- the loop from here is the loop from the start
 abbrev pub Inv_loop : lts.invariant-loop

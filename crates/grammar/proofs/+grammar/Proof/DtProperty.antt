@@ -8,8 +8,8 @@ use Rattle.machine.specs.Walk.{walk_rule, unlabelled}
 use Rattle.machine.proofs.Way.{c_walk, c_act, c_ret, c_seq, c_yes, c_no, c_told, c_mark, completed, c_call}
 use Rattle.grammar.proofs.Ways.{closes}
 use Rattle.grammar.proofs.dt_property.Reads as reads
-use Rattle.grammar.proofs.+bits_branch_cell_rest_cells_cond_branches_and_end_dt_cell_list_dt_node_body_dt_property_eat_cell_eat_inside_eat_node_or_prop_eat_pp_directive_item_item_rest_node_propvalues_value_value_rest.Lts-dt_property as lts
-use Rattle.grammar.proofs.+bits_branch_cell_rest_cells_cond_branches_and_end_dt_cell_list_dt_node_body_dt_property_eat_cell_eat_inside_eat_node_or_prop_eat_pp_directive_item_item_rest_node_propvalues_value_value_rest.Proof.Measures.{dt_property_at, dt_property_claims}
+use Rattle.grammar.proofs.+grammar.Lts-dt_property as lts
+use Rattle.grammar.proofs.+grammar.Proof.Measures.{dt_property_at, dt_property_claims}
 
 pub eat-requires : (t : ℕ) → lts.Need-eat-requires (dt_property_claims t) (dt_property_at t) reads.Post
 eat-requires t c κs = tt

@@ -8,8 +8,8 @@ use Rattle.machine.proofs.Way.{c_walk, c_act, c_ret, c_seq, c_yes, c_no, c_mark,
 use Rattle.steps.proofs.Steps.{closing}
 use Rattle.grammar.proofs.Ways.{c_same}
 use Rattle.grammar.proofs.bits.Reads as reads
-use Rattle.grammar.proofs.+bits_branch_cell_rest_cells_cond_branches_and_end_dt_cell_list_dt_node_body_dt_property_eat_cell_eat_inside_eat_node_or_prop_eat_pp_directive_item_item_rest_node_propvalues_value_value_rest.Lts-bits as lts
-use Rattle.grammar.proofs.+bits_branch_cell_rest_cells_cond_branches_and_end_dt_cell_list_dt_node_body_dt_property_eat_cell_eat_inside_eat_node_or_prop_eat_pp_directive_item_item_rest_node_propvalues_value_value_rest.Proof.Measures.{bits_at, bits_claims}
+use Rattle.grammar.proofs.+grammar.Lts-bits as lts
+use Rattle.grammar.proofs.+grammar.Proof.Measures.{bits_at, bits_claims}
 
 pub new-requires : (t : ℕ) → lts.Need-new-requires (bits_claims t) (bits_at t) reads.Post
 new-requires t c κs = tt

@@ -14,8 +14,8 @@ use Rattle.machine.proofs.Way.{c_walk, c_ret, c_seq, c_yes, c_no, c_call}
 use Rattle.steps.proofs.Left.{ahead_falls}
 use Rattle.grammar.proofs.Ways.{again_prog, last_yes, last_no, as_yes}
 use Rattle.grammar.proofs.cells.Reads as reads
-use Rattle.grammar.proofs.+bits_branch_cell_rest_cells_cond_branches_and_end_dt_cell_list_dt_node_body_dt_property_eat_cell_eat_inside_eat_node_or_prop_eat_pp_directive_item_item_rest_node_propvalues_value_value_rest.Lts-cells as lts
-use Rattle.grammar.proofs.+bits_branch_cell_rest_cells_cond_branches_and_end_dt_cell_list_dt_node_body_dt_property_eat_cell_eat_inside_eat_node_or_prop_eat_pp_directive_item_item_rest_node_propvalues_value_value_rest.Proof.Measures.{cells_at, cells_claims}
+use Rattle.grammar.proofs.+grammar.Lts-cells as lts
+use Rattle.grammar.proofs.+grammar.Proof.Measures.{cells_at, cells_claims}
 
 -- the loop from here is the loop from the start
 abbrev pub Inv_loop : lts.invariant-loop

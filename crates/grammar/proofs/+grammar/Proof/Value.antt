@@ -10,8 +10,8 @@ use Rattle.machine.proofs.Way.{c_walk, c_act, c_ret, c_seq, c_yes, c_no, c_mark,
 use Rattle.steps.proofs.Steps.{closing, answered_is, answered_yes}
 use Rattle.grammar.proofs.Ways.{c_same, answered_left}
 use Rattle.grammar.proofs.value.Reads as reads
-use Rattle.grammar.proofs.+bits_branch_cell_rest_cells_cond_branches_and_end_dt_cell_list_dt_node_body_dt_property_eat_cell_eat_inside_eat_node_or_prop_eat_pp_directive_item_item_rest_node_propvalues_value_value_rest.Lts-value as lts
-use Rattle.grammar.proofs.+bits_branch_cell_rest_cells_cond_branches_and_end_dt_cell_list_dt_node_body_dt_property_eat_cell_eat_inside_eat_node_or_prop_eat_pp_directive_item_item_rest_node_propvalues_value_value_rest.Proof.Measures.{value_at, value_claims}
+use Rattle.grammar.proofs.+grammar.Lts-value as lts
+use Rattle.grammar.proofs.+grammar.Proof.Measures.{value_at, value_claims}
 
 pub add-expected-requires : (t : ℕ) → lts.Need-add-expected-requires (value_claims t) (value_at t) reads.Post
 add-expected-requires t c κs = tt

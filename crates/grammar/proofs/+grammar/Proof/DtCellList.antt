@@ -7,8 +7,8 @@ use Rattle.machine.specs.Walk.{walk_rule, unlabelled}
 use Rattle.machine.proofs.Way.{c_walk, c_act, c_ret, c_seq, c_yes, c_no, completed, c_fn}
 use Rattle.grammar.proofs.Ways.{closes}
 use Rattle.grammar.proofs.dt_cell_list.Reads as reads
-use Rattle.grammar.proofs.+bits_branch_cell_rest_cells_cond_branches_and_end_dt_cell_list_dt_node_body_dt_property_eat_cell_eat_inside_eat_node_or_prop_eat_pp_directive_item_item_rest_node_propvalues_value_value_rest.Lts-dt_cell_list as lts
-use Rattle.grammar.proofs.+bits_branch_cell_rest_cells_cond_branches_and_end_dt_cell_list_dt_node_body_dt_property_eat_cell_eat_inside_eat_node_or_prop_eat_pp_directive_item_item_rest_node_propvalues_value_value_rest.Proof.Measures.{dt_cell_list_at, dt_cell_list_claims}
+use Rattle.grammar.proofs.+grammar.Lts-dt_cell_list as lts
+use Rattle.grammar.proofs.+grammar.Proof.Measures.{dt_cell_list_at, dt_cell_list_claims}
 
 pub bump-requires : (t : ℕ) → lts.Need-bump-requires (dt_cell_list_claims t) (dt_cell_list_at t) reads.Post
 bump-requires t c κs = tt

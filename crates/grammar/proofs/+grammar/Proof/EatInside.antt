@@ -5,8 +5,8 @@ use Rattle.definitions.specs.Grammar.{eat_inside}
 use Rattle.machine.proofs.Way.{c_ret, c_seq, c_call, way}
 use Rattle.grammar.proofs.Ways.{c_call_on, c_inside}
 use Rattle.grammar.proofs.eat_inside.Reads as reads
-use Rattle.grammar.proofs.+bits_branch_cell_rest_cells_cond_branches_and_end_dt_cell_list_dt_node_body_dt_property_eat_cell_eat_inside_eat_node_or_prop_eat_pp_directive_item_item_rest_node_propvalues_value_value_rest.Lts-eat_inside as lts
-use Rattle.grammar.proofs.+bits_branch_cell_rest_cells_cond_branches_and_end_dt_cell_list_dt_node_body_dt_property_eat_cell_eat_inside_eat_node_or_prop_eat_pp_directive_item_item_rest_node_propvalues_value_value_rest.Proof.Measures.{eat_inside_at, eat_inside_claims}
+use Rattle.grammar.proofs.+grammar.Lts-eat_inside as lts
+use Rattle.grammar.proofs.+grammar.Proof.Measures.{eat_inside_at, eat_inside_claims}
 
 pub enum_told : (t : ℕ) → lts.Need-enum-told (eat_inside_claims t) (eat_inside_at t) reads.Post
 enum_told t c =

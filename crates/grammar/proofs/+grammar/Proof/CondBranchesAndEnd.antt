@@ -14,8 +14,8 @@ use Rattle.machine.proofs.Way.{c_walk, c_act, c_ret, c_seq, c_yes, c_no, c_fn}
 use Rattle.steps.proofs.Left.{ahead_falls}
 use Rattle.grammar.proofs.Ways.{c_prog, prog_on, again_prog, last_yes}
 use Rattle.grammar.proofs.cond_branches_and_end.Reads as reads
-use Rattle.grammar.proofs.+bits_branch_cell_rest_cells_cond_branches_and_end_dt_cell_list_dt_node_body_dt_property_eat_cell_eat_inside_eat_node_or_prop_eat_pp_directive_item_item_rest_node_propvalues_value_value_rest.Lts-cond_branches_and_end as lts
-use Rattle.grammar.proofs.+bits_branch_cell_rest_cells_cond_branches_and_end_dt_cell_list_dt_node_body_dt_property_eat_cell_eat_inside_eat_node_or_prop_eat_pp_directive_item_item_rest_node_propvalues_value_value_rest.Proof.Measures.{cond_branches_and_end_at, cond_branches_and_end_claims}
+use Rattle.grammar.proofs.+grammar.Lts-cond_branches_and_end as lts
+use Rattle.grammar.proofs.+grammar.Proof.Measures.{cond_branches_and_end_at, cond_branches_and_end_claims}
 
 -- the loop from here is the loop from the start
 abbrev pub Inv_loop : lts.invariant-loop

@@ -9,8 +9,8 @@ use Rattle.machine.proofs.Way.{c_walk, c_act, c_ret, c_seq, c_yes, c_no, c_mark,
 use Rattle.steps.proofs.Steps.{c_any, closing}
 use Rattle.grammar.proofs.Ways.{c_same, closes}
 use Rattle.grammar.proofs.node.Reads as reads
-use Rattle.grammar.proofs.+bits_branch_cell_rest_cells_cond_branches_and_end_dt_cell_list_dt_node_body_dt_property_eat_cell_eat_inside_eat_node_or_prop_eat_pp_directive_item_item_rest_node_propvalues_value_value_rest.Lts-node as lts
-use Rattle.grammar.proofs.+bits_branch_cell_rest_cells_cond_branches_and_end_dt_cell_list_dt_node_body_dt_property_eat_cell_eat_inside_eat_node_or_prop_eat_pp_directive_item_item_rest_node_propvalues_value_value_rest.Proof.Measures.{node_at, node_claims}
+use Rattle.grammar.proofs.+grammar.Lts-node as lts
+use Rattle.grammar.proofs.+grammar.Proof.Measures.{node_at, node_claims}
 
 pub at-requires : (t : ℕ) → lts.Need-at-requires (node_claims t) (node_at t) reads.Post
 at-requires t c κs = tt

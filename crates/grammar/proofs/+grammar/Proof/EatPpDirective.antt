@@ -12,8 +12,8 @@ use Rattle.machine.proofs.Way.{c_act, c_ret, c_seq, c_yes, c_no, c_mark, complet
 use Rattle.steps.proofs.Steps.{c_ret_no}
 use Rattle.grammar.proofs.Ways.{c_prog_on, c_assoc}
 use Rattle.grammar.proofs.eat_pp_directive.Reads as reads
-use Rattle.grammar.proofs.+bits_branch_cell_rest_cells_cond_branches_and_end_dt_cell_list_dt_node_body_dt_property_eat_cell_eat_inside_eat_node_or_prop_eat_pp_directive_item_item_rest_node_propvalues_value_value_rest.Lts-eat_pp_directive as lts
-use Rattle.grammar.proofs.+bits_branch_cell_rest_cells_cond_branches_and_end_dt_cell_list_dt_node_body_dt_property_eat_cell_eat_inside_eat_node_or_prop_eat_pp_directive_item_item_rest_node_propvalues_value_value_rest.Proof.Measures.{eat_pp_directive_at, eat_pp_directive_claims}
+use Rattle.grammar.proofs.+grammar.Lts-eat_pp_directive as lts
+use Rattle.grammar.proofs.+grammar.Proof.Measures.{eat_pp_directive_at, eat_pp_directive_claims}
 
 pub add-expected-requires : (t : ℕ) → lts.Need-add-expected-requires (eat_pp_directive_claims t) (eat_pp_directive_at t) reads.Post
 add-expected-requires t c κs = tt
