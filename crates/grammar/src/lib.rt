@@ -2,8 +2,7 @@
 // preprocessor_directive.rs. They are one cycle of calls and so stand in one file: tokens left, and then a rank of the
 // function, fall at each call. The parser goes in and comes back by value; `allowed` is how many more calls of `item`,
 // `propvalues` and `eat_cell` may be opened. What no call can be opened under stands in the crates below. The ten
-// functions of the Rust have its names, but `eat_pp_directive`. The names of their cases are short, since the folder of
-// the cycle's proof is named after all its members and a file's name ends at 249 bytes: `bits`, `value` and
+// functions of the Rust have its names, but `eat_pp_directive`. The names of their cases are short: `bits`, `value` and
 // `value_rest` are cases of `propvalues`, `cell_rest` of `eat_cell`, `item_rest` of `item`, `node` of
 // `eat_node_or_prop`, `branch` of `cond_branches_and_end`.
 #![tactic(auto)]
