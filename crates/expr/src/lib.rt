@@ -118,7 +118,7 @@ pub fn dt_expr(
     end.p.complete(events, m, node_kind::DT_EXPR)
 }
 
-#[cycle(expr_binding_power_infix_chain_infix_turn_lhs_missing_lhs_no_lhs_paren_expr_prefix_expr_rhs_ternary_rhs)]
+#[cycle(expression)]
 pub fn expr_binding_power(
     p: Parser,
     tokens: &[u32],
@@ -158,7 +158,7 @@ pub fn expr_binding_power(
 }
 
 // Each turn's InfixExpr takes in all that stands since the first marker.
-#[cycle(expr_binding_power_infix_chain_infix_turn_lhs_missing_lhs_no_lhs_paren_expr_prefix_expr_rhs_ternary_rhs)]
+#[cycle(expression)]
 fn infix_chain(
     p: Parser,
     tokens: &[u32],
@@ -196,7 +196,7 @@ fn infix_chain(
     }
 }
 
-#[cycle(expr_binding_power_infix_chain_infix_turn_lhs_missing_lhs_no_lhs_paren_expr_prefix_expr_rhs_ternary_rhs)]
+#[cycle(expression)]
 fn infix_turn(
     p: Parser,
     tokens: &[u32],
@@ -238,7 +238,7 @@ fn infix_turn(
     }
 }
 
-#[cycle(expr_binding_power_infix_chain_infix_turn_lhs_missing_lhs_no_lhs_paren_expr_prefix_expr_rhs_ternary_rhs)]
+#[cycle(expression)]
 fn rhs(
     p: Parser,
     tokens: &[u32],
@@ -261,7 +261,7 @@ fn rhs(
 }
 
 // After the question mark: the middle, the colon and the right side.
-#[cycle(expr_binding_power_infix_chain_infix_turn_lhs_missing_lhs_no_lhs_paren_expr_prefix_expr_rhs_ternary_rhs)]
+#[cycle(expression)]
 fn ternary_rhs(
     p: Parser,
     tokens: &[u32],
@@ -310,7 +310,7 @@ fn ternary_rhs(
     }
 }
 
-#[cycle(expr_binding_power_infix_chain_infix_turn_lhs_missing_lhs_no_lhs_paren_expr_prefix_expr_rhs_ternary_rhs)]
+#[cycle(expression)]
 fn lhs(
     p: Parser,
     tokens: &[u32],
@@ -348,7 +348,7 @@ fn lhs(
     ParserTested { p: q, yes: false }
 }
 
-#[cycle(expr_binding_power_infix_chain_infix_turn_lhs_missing_lhs_no_lhs_paren_expr_prefix_expr_rhs_ternary_rhs)]
+#[cycle(expression)]
 fn prefix_expr(
     p: Parser,
     tokens: &[u32],
@@ -371,7 +371,7 @@ fn prefix_expr(
     }
 }
 
-#[cycle(expr_binding_power_infix_chain_infix_turn_lhs_missing_lhs_no_lhs_paren_expr_prefix_expr_rhs_ternary_rhs)]
+#[cycle(expression)]
 fn paren_expr(
     p: Parser,
     tokens: &[u32],
@@ -412,7 +412,7 @@ fn literal_expr(p: Parser, tokens: &[u32], events: &mut [u32]) -> Parser
 }
 
 // Nothing that an expression starts with.
-#[cycle(expr_binding_power_infix_chain_infix_turn_lhs_missing_lhs_no_lhs_paren_expr_prefix_expr_rhs_ternary_rhs)]
+#[cycle(expression)]
 fn no_lhs(
     p: Parser,
     tokens: &[u32],
@@ -446,7 +446,7 @@ fn no_lhs(
 }
 
 // Recovery: an operator whose left side is missing.
-#[cycle(expr_binding_power_infix_chain_infix_turn_lhs_missing_lhs_no_lhs_paren_expr_prefix_expr_rhs_ternary_rhs)]
+#[cycle(expression)]
 fn missing_lhs(
     p: Parser,
     tokens: &[u32],

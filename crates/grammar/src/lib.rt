@@ -2,8 +2,7 @@
 // preprocessor_directive.rs. They are one cycle of calls and so stand in one file: tokens left, and then a rank of the
 // function, fall at each call. The parser goes in and comes back by value; `allowed` is how many more calls of `item`,
 // `propvalues` and `eat_cell` may be opened. What no call can be opened under stands in the crates below. The ten
-// functions of the Rust have its names, but `eat_pp_directive`. The names of their cases are short, since the folder of
-// the cycle's proof is named after all its members and a file's name ends at 249 bytes: `bits`, `value` and
+// functions of the Rust have its names, but `eat_pp_directive`. The names of their cases are short: `bits`, `value` and
 // `value_rest` are cases of `propvalues`, `cell_rest` of `eat_cell`, `item_rest` of `item`, `node` of
 // `eat_node_or_prop`, `branch` of `cond_branches_and_end`.
 #![tactic(auto)]
@@ -43,7 +42,7 @@ use prefixes::eat_node_or_prop_prefix;
 
 // ---- cells
 
-#[cycle(bits_branch_cell_rest_cells_cond_branches_and_end_dt_cell_list_dt_node_body_dt_property_eat_cell_eat_inside_eat_node_or_prop_eat_pp_directive_item_item_rest_node_propvalues_value_value_rest)]
+#[cycle(grammar)]
 fn cells(
     p: Parser,
     tokens: &[u32],
@@ -86,7 +85,7 @@ fn cells(
     }
 }
 
-#[cycle(bits_branch_cell_rest_cells_cond_branches_and_end_dt_cell_list_dt_node_body_dt_property_eat_cell_eat_inside_eat_node_or_prop_eat_pp_directive_item_item_rest_node_propvalues_value_value_rest)]
+#[cycle(grammar)]
 fn eat_cell(
     p: Parser,
     tokens: &[u32],
@@ -126,7 +125,7 @@ fn eat_cell(
 }
 
 // The last cases of `eat_cell`.
-#[cycle(bits_branch_cell_rest_cells_cond_branches_and_end_dt_cell_list_dt_node_body_dt_property_eat_cell_eat_inside_eat_node_or_prop_eat_pp_directive_item_item_rest_node_propvalues_value_value_rest)]
+#[cycle(grammar)]
 fn cell_rest(
     p: Parser,
     tokens: &[u32],
@@ -178,7 +177,7 @@ fn cell_rest(
 }
 
 // Completes m, which the caller made. yes: Ok; no: the cells were cut off.
-#[cycle(bits_branch_cell_rest_cells_cond_branches_and_end_dt_cell_list_dt_node_body_dt_property_eat_cell_eat_inside_eat_node_or_prop_eat_pp_directive_item_item_rest_node_propvalues_value_value_rest)]
+#[cycle(grammar)]
 fn dt_cell_list(
     p: Parser,
     tokens: &[u32],
@@ -212,7 +211,7 @@ fn dt_cell_list(
 // ---- values
 
 // yes: Ok.
-#[cycle(bits_branch_cell_rest_cells_cond_branches_and_end_dt_cell_list_dt_node_body_dt_property_eat_cell_eat_inside_eat_node_or_prop_eat_pp_directive_item_item_rest_node_propvalues_value_value_rest)]
+#[cycle(grammar)]
 fn propvalues(
     p: Parser,
     tokens: &[u32],
@@ -269,7 +268,7 @@ fn propvalues(
 }
 
 // One value. Yes: it was there; No: its cells were cut off; Also: it was not there.
-#[cycle(bits_branch_cell_rest_cells_cond_branches_and_end_dt_cell_list_dt_node_body_dt_property_eat_cell_eat_inside_eat_node_or_prop_eat_pp_directive_item_item_rest_node_propvalues_value_value_rest)]
+#[cycle(grammar)]
 fn value(
     p: Parser,
     tokens: &[u32],
@@ -305,7 +304,7 @@ fn value(
 }
 
 // `/bits/`, its number and its cells.
-#[cycle(bits_branch_cell_rest_cells_cond_branches_and_end_dt_cell_list_dt_node_body_dt_property_eat_cell_eat_inside_eat_node_or_prop_eat_pp_directive_item_item_rest_node_propvalues_value_value_rest)]
+#[cycle(grammar)]
 fn bits(
     p: Parser,
     tokens: &[u32],
@@ -341,7 +340,7 @@ fn bits(
 }
 
 // The last cases of a value.
-#[cycle(bits_branch_cell_rest_cells_cond_branches_and_end_dt_cell_list_dt_node_body_dt_property_eat_cell_eat_inside_eat_node_or_prop_eat_pp_directive_item_item_rest_node_propvalues_value_value_rest)]
+#[cycle(grammar)]
 fn value_rest(
     p: Parser,
     tokens: &[u32],
@@ -406,7 +405,7 @@ fn value_rest(
 // ---- properties and nodes
 
 // Completes m, which the caller made. The cursor is at a Semicolon or an Equals.
-#[cycle(bits_branch_cell_rest_cells_cond_branches_and_end_dt_cell_list_dt_node_body_dt_property_eat_cell_eat_inside_eat_node_or_prop_eat_pp_directive_item_item_rest_node_propvalues_value_value_rest)]
+#[cycle(grammar)]
 fn dt_property(
     p: Parser,
     tokens: &[u32],
@@ -447,7 +446,7 @@ fn dt_property(
 }
 
 // Completes m, which the caller made. The cursor is at the LCurly.
-#[cycle(bits_branch_cell_rest_cells_cond_branches_and_end_dt_cell_list_dt_node_body_dt_property_eat_cell_eat_inside_eat_node_or_prop_eat_pp_directive_item_item_rest_node_propvalues_value_value_rest)]
+#[cycle(grammar)]
 fn dt_node_body(
     p: Parser,
     tokens: &[u32],
@@ -474,7 +473,7 @@ fn dt_node_body(
 
 // ---- items
 
-#[cycle(bits_branch_cell_rest_cells_cond_branches_and_end_dt_cell_list_dt_node_body_dt_property_eat_cell_eat_inside_eat_node_or_prop_eat_pp_directive_item_item_rest_node_propvalues_value_value_rest)]
+#[cycle(grammar)]
 fn item(
     p: Parser,
     tokens: &[u32],
@@ -534,7 +533,7 @@ fn item(
 }
 
 // The last cases of `item`.
-#[cycle(bits_branch_cell_rest_cells_cond_branches_and_end_dt_cell_list_dt_node_body_dt_property_eat_cell_eat_inside_eat_node_or_prop_eat_pp_directive_item_item_rest_node_propvalues_value_value_rest)]
+#[cycle(grammar)]
 fn item_rest(
     p: Parser,
     tokens: &[u32],
@@ -577,7 +576,7 @@ fn item_rest(
     )
 }
 
-#[cycle(bits_branch_cell_rest_cells_cond_branches_and_end_dt_cell_list_dt_node_body_dt_property_eat_cell_eat_inside_eat_node_or_prop_eat_pp_directive_item_item_rest_node_propvalues_value_value_rest)]
+#[cycle(grammar)]
 fn eat_node_or_prop(
     p: Parser,
     tokens: &[u32],
@@ -619,7 +618,7 @@ fn eat_node_or_prop(
 }
 
 // What follows the prefix, unless it is a property: the definitions' `no_property`. Completes m, which the caller made.
-#[cycle(bits_branch_cell_rest_cells_cond_branches_and_end_dt_cell_list_dt_node_body_dt_property_eat_cell_eat_inside_eat_node_or_prop_eat_pp_directive_item_item_rest_node_propvalues_value_value_rest)]
+#[cycle(grammar)]
 fn node(
     p: Parser,
     tokens: &[u32],
@@ -664,7 +663,7 @@ fn node(
 // ---- preprocessor_directive.rs
 
 // What a branch holds, once. no: nothing was there.
-#[cycle(bits_branch_cell_rest_cells_cond_branches_and_end_dt_cell_list_dt_node_body_dt_property_eat_cell_eat_inside_eat_node_or_prop_eat_pp_directive_item_item_rest_node_propvalues_value_value_rest)]
+#[cycle(grammar)]
 fn eat_inside(
     p: Parser,
     tokens: &[u32],
@@ -693,7 +692,7 @@ fn eat_inside(
 }
 
 // One branch, up to its end (no) or to a continuation (yes).
-#[cycle(bits_branch_cell_rest_cells_cond_branches_and_end_dt_cell_list_dt_node_body_dt_property_eat_cell_eat_inside_eat_node_or_prop_eat_pp_directive_item_item_rest_node_propvalues_value_value_rest)]
+#[cycle(grammar)]
 fn branch(
     p: Parser,
     tokens: &[u32],
@@ -743,7 +742,7 @@ fn branch(
     }
 }
 
-#[cycle(bits_branch_cell_rest_cells_cond_branches_and_end_dt_cell_list_dt_node_body_dt_property_eat_cell_eat_inside_eat_node_or_prop_eat_pp_directive_item_item_rest_node_propvalues_value_value_rest)]
+#[cycle(grammar)]
 fn cond_branches_and_end(
     p: Parser,
     tokens: &[u32],
@@ -775,7 +774,7 @@ fn cond_branches_and_end(
 }
 
 // `eat_preprocessor_directive`
-#[cycle(bits_branch_cell_rest_cells_cond_branches_and_end_dt_cell_list_dt_node_body_dt_property_eat_cell_eat_inside_eat_node_or_prop_eat_pp_directive_item_item_rest_node_propvalues_value_value_rest)]
+#[cycle(grammar)]
 fn eat_pp_directive(
     p: Parser,
     tokens: &[u32],

@@ -10,7 +10,7 @@ use Rattle.definitions.specs.Layout.{START_NODE}
 use Rattle.definitions.specs.TokenKind as K
 use Rattle.definitions.specs.Token.{Token, past, first_in}
 use Rattle.definitions.specs.Skeleton.{Span}
-use Rattle.definitions.specs.Prog.{choose, Ans, no, yes, Rule, Act, silent_at, at_end, immediate, immediate_next, add_expected, bump, bump_name, emit, Prog, act, ◌⨟◌, case}
+use Rattle.definitions.specs.Prog.{choose, Ans, no, yes, Rule, Act, silent_at, at_end, immediate, immediate_next, add_expected, bump, bump_name, Prog, act, ◌⨟◌, case}
 use Rattle.definitions.specs.Check.{tell, when◌then◌else◌, in_node, end?, expected}
 use Rattle.definitions.specs.Check as C
 use Rattle.definitions.specs.NodeKind as N

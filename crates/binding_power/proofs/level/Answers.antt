@@ -1,12 +1,9 @@
 -- `level` reads the definitions' level of the kind off the table.
 use mathlib.Core.Path.{refl}
 use mathlib.Core.Bool.{true, false}
-use native.Mathlib.Omega.{arith}
 use lib.Dec.{leb}
-use borrow.Author.Tests.{leb-true}
 use Rattle.definitions.specs.TokenKind as K
 use Rattle.binding_power.proofs.Powers.{level_at}
-use borrow.Author.Rules.{rules}
 use Rattle.binding_power.proofs.level.Goals as goal
 
 pub returns-then-high : goal.returns-then-high

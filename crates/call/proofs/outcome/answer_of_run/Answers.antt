@@ -1,14 +1,6 @@
 -- `answer_of_run`: all reports of the setting fit, or one does not.
-use mathlib.Core.Path.{sym}
-use lib.Seq.{length-take-le}
 use Rattle.call.proofs.Ways.{fitted, not_fitted}
 use Rattle.call.proofs.outcome.answer_of_run.Goals as goal
-
-pub slice_bounds-finish-end : goal.slice_bounds-finish-end
-slice_bounds-finish-end c = sym (length-take-le c.args.events_written c.args.events.now c.requires)
-
-pub slice_bounds-report_names-end : goal.slice_bounds-report_names-end
-slice_bounds-report_names-end c = sym (length-take-le c.args.events_written c.args.events.now c.requires)
 
 pub returns-then-fitted : goal.returns-then-fitted
 returns-then-fitted c =

@@ -1,5 +1,5 @@
 -- `with`: the digit alone, joined.
-use Rattle.std.proofs.Common.{◌%◌, ◌^◌, ap, ◌∙◌, one-mul, arith, shl_exact, rules}
+use Rattle.std.proofs.Common.{◌%◌, ◌^◌, ap, ◌∙◌, one-mul, arith, shl_exact}
 use lib.Bits.{bit_or}
 use Rattle.basics.specs.WordSet.{put_in_word}
 use Rattle.layout.proofs.word_set.with.Goals as goal

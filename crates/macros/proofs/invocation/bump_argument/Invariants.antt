@@ -1,18 +1,11 @@
 -- `bump_argument`: the rest of the argument from here is the argument from its start.
 use Prim.Native.Nat.{ℕ, ◌+◌, ◌≤◌}
-use mathlib.Core.Path.{◌≡◌, refl, ap, ◌∙◌}
-use mathlib.Core.Bool.{false≢true}
+use mathlib.Core.Path.{◌≡◌}
 use mathlib.Core.List.{List}
-use native.Mathlib.Omega.{arith}
-use native.Mathlib.Nat.{le_refl}
 use lib.ListN.{length}
-use Rattle.basics.proofs.Flags.{flags}
 use Rattle.definitions.specs.Token.{tokens_of}
-use Rattle.machine.specs.Walk.{unlabelled}
-use Rattle.machine.proofs.Turns.{argue, few_rows}
+use Rattle.machine.proofs.Turns.{argue}
 use Rattle.parser.specs.View.{view, tokens_left}
-use Rattle.macros.specs.Role.{role}
-use Rattle.macros.proofs.Arguments.{argue_comma, argue_end, argue_on, argue_whole, comma_some, inside_some, inside_most, row_left, few_left}
 use Rattle.macros.proofs.invocation.bump_argument.Given as goal
 
 abbrev pub invariant-loop-next : goal.invariant-loop-next

@@ -1,7 +1,6 @@
 -- `role_of`: the end, an LParen, and outside or inside inner brackets all others.
 use mathlib.Core.Path.{sym, ap, ◌∙◌}
-use borrow.Author.Tests.{eqb-true, eqb-false}
-use Rattle.basics.proofs.Flags.{flags}
+use borrow.Author.Tests.{eqb-true}
 use Rattle.macros.specs.Role.{role}
 use Rattle.macros.proofs.Arguments.{role_opens, role_ends, role_less, role_inner}
 use Rattle.macros.proofs.invocation.role_of.Goals as goal

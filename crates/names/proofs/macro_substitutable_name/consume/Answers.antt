@@ -6,7 +6,6 @@ use Rattle.definitions.specs.Run.{truth}
 use Rattle.machine.proofs.Way.{c_walk, c_act}
 use Rattle.steps.proofs.Ways.{whole, opened, if_no, if_yes}
 use Rattle.names.proofs.Opened.{name_consume_is}
-use borrow.Author.Rules.{rules}
 use Rattle.names.proofs.macro_substitutable_name.consume.Goals as goal
 
 pub shape_of-events-then-args : goal.shape_of-events-then-args

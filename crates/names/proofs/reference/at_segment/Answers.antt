@@ -6,7 +6,6 @@ use Rattle.definitions.specs.Run.{truth}
 use Rattle.machine.proofs.Way.{c_walk, c_act, c_ret}
 use Rattle.steps.proofs.Ways.{whole, opened, if_no, if_yes}
 use Rattle.names.proofs.Opened.{at_segment_is}
-use borrow.Author.Rules.{rules}
 use Rattle.names.proofs.reference.at_segment.Goals as goal
 
 pub returns-then-rcurly : goal.returns-then-rcurly

@@ -1,7 +1,6 @@
 -- `complete`: of the numbers; the codes stay.
 use Rattle.basics.proofs.Flags.{flags}
 use Rattle.parser.proofs.Moves.{with_view, with_left}
-use borrow.Author.Rules.{rules}
 use Rattle.parser.proofs.Parser.complete.Goals as goal
 
 pub returns : goal.returns

@@ -1,5 +1,4 @@
 -- `eat`: with the codes lent.
-use borrow.Author.Rules.{rules}
 use Rattle.parser.proofs.Parser.eat.Goals as goal
 
 pub returns : goal.returns

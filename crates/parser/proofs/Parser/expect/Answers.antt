@@ -1,5 +1,4 @@
 -- `expect`: with the codes lent.
-use borrow.Author.Rules.{rules}
 use Rattle.parser.proofs.Parser.expect.Goals as goal
 
 pub returns : goal.returns

@@ -1,5 +1,4 @@
 -- `expect_recoverable`: with the codes lent.
-use borrow.Author.Rules.{rules}
 use Rattle.parser.proofs.Parser.expect_recoverable.Goals as goal
 
 pub returns : goal.returns

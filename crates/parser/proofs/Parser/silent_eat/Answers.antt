@@ -1,7 +1,6 @@
 -- `silent_eat`: of the numbers; the codes stay.
 use Rattle.basics.proofs.Flags.{flags}
 use Rattle.parser.proofs.Moves.{with_said, with_left}
-use borrow.Author.Rules.{rules}
 use Rattle.parser.proofs.Parser.silent_eat.Goals as goal
 
 pub returns : goal.returns

@@ -3,7 +3,6 @@ use Rattle.basics.proofs.Flags.{flags}
 use borrow.Author.Tests.{ltb-true, ltb-false}
 use Rattle.parser.specs.View.{view, tokens_left}
 use Rattle.parser.proofs.Moves.{bump_in, bump_past}
-use borrow.Author.Rules.{rules}
 use Rattle.parser.proofs.State.bump.Goals as goal
 
 pub returns-then-exists : goal.returns-then-exists

@@ -3,7 +3,6 @@ use Rattle.basics.proofs.Flags.{flags}
 use borrow.Author.Tests.{ltb-true, ltb-false}
 use Rattle.parser.specs.View.{view, tokens_left}
 use Rattle.parser.proofs.Moves.{name_in, name_past}
-use borrow.Author.Rules.{rules}
 use Rattle.parser.proofs.State.bump_name.Goals as goal
 
 pub returns-then-exists : goal.returns-then-exists

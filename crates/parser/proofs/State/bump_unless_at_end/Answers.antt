@@ -7,7 +7,6 @@ use Rattle.definitions.specs.Prog.{bump}
 use Rattle.definitions.specs.Check.{bump! }
 use Rattle.parser.specs.View.{view}
 use Rattle.parser.proofs.Programs.{answered, walk_act, end_yes, end_no}
-use borrow.Author.Rules.{rules}
 use Rattle.parser.proofs.State.bump_unless_at_end.Goals as goal
 
 pub returns-then-end : goal.returns-then-end

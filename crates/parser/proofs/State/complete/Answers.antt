@@ -2,7 +2,6 @@
 use Rattle.basics.proofs.Flags.{flags}
 use Rattle.parser.specs.View.{view, tokens_left, marker_of}
 use Rattle.parser.proofs.Moves.{complete_on, complete_off}
-use borrow.Author.Rules.{rules}
 use Rattle.parser.proofs.State.complete.Goals as goal
 
 pub returns-then-unrefused : goal.returns-then-unrefused

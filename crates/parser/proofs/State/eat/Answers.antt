@@ -5,7 +5,6 @@ use mathlib.Core.Bool.{true, false, false≢true}
 use Rattle.definitions.specs.Token.{tokens_of}
 use Rattle.parser.specs.View.{view, matcher_of}
 use Rattle.parser.proofs.Programs.{answered, matches_is, eat_yes, eat_no}
-use borrow.Author.Rules.{rules}
 use Rattle.parser.proofs.State.eat.Goals as goal
 
 pub returns-then-k : goal.returns-then-k

@@ -4,7 +4,6 @@ use mathlib.Core.Bool.{true, false, false≢true}
 use Rattle.definitions.specs.Token.{tokens_of}
 use Rattle.parser.specs.View.{view, matcher_of, marker_of}
 use Rattle.parser.proofs.Programs.{answered, starting_yes, starting_no}
-use borrow.Author.Rules.{rules}
 use Rattle.parser.proofs.State.eat_starting.Goals as goal
 
 pub returns-then-k : goal.returns-then-k

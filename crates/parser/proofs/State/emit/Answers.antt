@@ -4,7 +4,6 @@ use Rattle.definitions.specs.Token.{tokens_of}
 use borrow.Author.Tests.{eqb-true}
 use Rattle.parser.specs.View.{view, span_of}
 use Rattle.parser.proofs.Reports.{emit_is, report_off}
-use borrow.Author.Rules.{rules}
 use Rattle.parser.proofs.State.emit.Goals as goal
 
 pub returns-then-unrefused : goal.returns-then-unrefused

@@ -4,7 +4,6 @@ use mathlib.Core.Path.{ap}
 use Rattle.definitions.specs.Token.{tokens_of}
 use Rattle.parser.specs.View.{view, span_of, takes}
 use Rattle.parser.proofs.Programs.{error_alone, error_no, error_yes, error_wrapped}
-use borrow.Author.Rules.{rules}
 use Rattle.parser.proofs.State.error.Goals as goal
 
 pub returns-in-No : goal.returns-in-No

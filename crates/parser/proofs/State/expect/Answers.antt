@@ -4,7 +4,6 @@ use mathlib.Core.Bool.{false, false≢true}
 use Rattle.definitions.specs.Token.{tokens_of}
 use Rattle.parser.specs.View.{view, matcher_of}
 use Rattle.parser.proofs.Programs.{answered, expect_yes, expect_no}
-use borrow.Author.Rules.{rules}
 use Rattle.parser.proofs.State.expect.Goals as goal
 
 pub returns-then-k : goal.returns-then-k

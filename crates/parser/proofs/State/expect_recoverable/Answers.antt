@@ -4,7 +4,6 @@ use mathlib.Core.Bool.{true, false}
 use Rattle.definitions.specs.Token.{tokens_of}
 use Rattle.parser.specs.View.{view, matcher_of}
 use Rattle.parser.proofs.Programs.{answered, recoverable_yes, recoverable_in, recoverable_out}
-use borrow.Author.Rules.{rules}
 use Rattle.parser.proofs.State.expect_recoverable.Goals as goal
 
 pub returns-then-k : goal.returns-then-k

@@ -1,7 +1,6 @@
 -- `precede`: a placeholder, and the link to it.
 use Rattle.parser.specs.View.{view, marker_of}
 use Rattle.parser.proofs.Moves.{precede_on, precede_off}
-use borrow.Author.Rules.{rules}
 use Rattle.parser.proofs.State.precede.Goals as goal
 
 pub returns-then-unrefused : goal.returns-then-unrefused

@@ -3,7 +3,6 @@ use Rattle.basics.proofs.Flags.{flags}
 use mathlib.Core.Path.{◌∙◌}
 use Rattle.parser.specs.View.{tokens_left}
 use Rattle.parser.proofs.Moves.{push_on, push_off}
-use borrow.Author.Rules.{rules}
 use Rattle.parser.proofs.State.push_event.Goals as goal
 
 pub returns-then-unrefused : goal.returns-then-unrefused

@@ -2,7 +2,6 @@
 use Rattle.basics.proofs.Flags.{flags}
 use Rattle.parser.specs.View.{view, tokens_left, span_of}
 use Rattle.parser.proofs.Reports.{report_fits, report_no_pool, report_no_row}
-use borrow.Author.Rules.{rules}
 use Rattle.parser.proofs.State.push_report.Goals as goal
 
 pub put_codes-requires : goal.put_codes-requires

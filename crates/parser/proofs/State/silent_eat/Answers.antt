@@ -7,7 +7,6 @@ use Rattle.definitions.specs.Run.{truth}
 use Rattle.machine.specs.Walk.{said}
 use Rattle.parser.specs.View.{view, matcher_of}
 use Rattle.parser.proofs.Programs.{answered, matches_is, silent_eat_yes, silent_eat_no}
-use borrow.Author.Rules.{rules}
 use Rattle.parser.proofs.State.silent_eat.Goals as goal
 
 pub returns-then-k : goal.returns-then-k

@@ -1,14 +1,11 @@
 -- `take_while`: the name's rest from here is the name's rest from the start.
-use Rattle.basics.proofs.Flags.{flags}
 use Prim.Native.Nat.{ℕ, ◌≤◌}
-use mathlib.Core.Path.{◌≡◌, refl, sym, ◌∙◌}
-use native.Mathlib.Nat.{le_refl}
+use mathlib.Core.Path.{◌≡◌}
 use mathlib.Core.List.{List}
 use lib.ListN.{drop}
 use Rattle.definitions.specs.Token.{tokens_of}
 use Rattle.machine.specs.Machine.{name_stretch}
 use Rattle.parser.specs.View.{view, tokens_left}
-use Rattle.parser.proofs.Moves.{name_more, name_done}
 use Rattle.parser.proofs.State.take_while.Given as goal
 
 abbrev pub invariant-loop-q : goal.invariant-loop-q

@@ -9,7 +9,6 @@ use Rattle.definitions.specs.Check.{in_node, bump! }
 use Rattle.definitions.specs.NodeKind as N
 use Rattle.parser.specs.View.{view, marker_of}
 use Rattle.parser.proofs.Programs.{answered, walk_act, walk_node, end_yes, end_no}
-use borrow.Author.Rules.{rules}
 use Rattle.parser.proofs.State.wrap_unless_at_end.Goals as goal
 
 pub returns-then-end : goal.returns-then-end

@@ -1,6 +1,6 @@
 -- `put_codes`: the first codes are written.
 use Rattle.basics.proofs.Flags.{flags}
-use Prim.Native.Nat.{ℕ, ◌+◌, ◌-◌, ◌≤◌}
+use Prim.Native.Nat.{ℕ, ◌+◌}
 use mathlib.Core.Path.{◌≡◌, refl, ◌∙◌, ap}
 use mathlib.Core.List.{List}
 use lib.ListN.{length, set, take}

@@ -1,11 +1,8 @@
 -- `put_codes`: the first codes are written.
-use Rattle.basics.proofs.Flags.{flags}
-use Prim.Native.Nat.{ℕ, ◌+◌, ◌-◌, ◌≤◌}
-use mathlib.Core.Path.{◌≡◌, refl, ◌∙◌, ap}
-use mathlib.Core.List.{List}
-use lib.ListN.{length, set, take}
-use lib.Seq.{sets, length-sets}
-use Rattle.parser.proofs.Lists.{codes_more}
+use Prim.Native.Nat.{◌-◌, ◌≤◌}
+use mathlib.Core.Path.{◌≡◌}
+use lib.ListN.{take}
+use lib.Seq.{sets}
 use Rattle.parser.proofs.errors.put_codes.Given as goal
 
 abbrev pub invariant-loop-i : goal.invariant-loop-i

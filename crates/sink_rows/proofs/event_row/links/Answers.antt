@@ -1,11 +1,6 @@
 -- `links`: those still to count and those counted are all.
-use Prim.Native.Nat.{◌+◌, ◌-◌, ◌/◌, ◌≤◌}
-use mathlib.Core.Path.{◌≡◌}
-use lib.ListN.{length}
 use Rattle.basics.proofs.Flags.{flags}
 use Rattle.sink_rows.proofs.Chains.{links_begin, links_again, links_done}
-use Rattle.definitions.specs.Layout.{EVENT_ROW}
-use Rattle.sink_rows.specs.Rows.{links, linksN, link}
 use Rattle.sink_rows.proofs.event_row.links.Goals as goal
 
 pub loop-d-init : goal.loop-d-init

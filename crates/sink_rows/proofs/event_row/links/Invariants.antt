@@ -2,8 +2,6 @@
 use Prim.Native.Nat.{◌+◌, ◌-◌, ◌/◌, ◌≤◌}
 use mathlib.Core.Path.{◌≡◌}
 use lib.ListN.{length}
-use Rattle.basics.proofs.Flags.{flags}
-use Rattle.sink_rows.proofs.Chains.{links_begin, links_again, links_done}
 use Rattle.definitions.specs.Layout.{EVENT_ROW}
 use Rattle.sink_rows.specs.Rows.{links, linksN, link}
 use Rattle.sink_rows.proofs.event_row.links.Given as goal

@@ -1,10 +1,7 @@
 -- `open_rows`: what is left of the chain is written as all of it is.
 use Prim.Native.Nat.{◌≤◌, ◌<◌}
-use mathlib.Core.Path.{◌≡◌, refl}
+use mathlib.Core.Path.{◌≡◌}
 use lib.ListN.{length}
-use native.Mathlib.Omega.{arith}
-use Rattle.basics.proofs.Flags.{flags}
-use Rattle.sink_rows.proofs.Chains.{open_again, open_end}
 use Rattle.definitions.specs.Layout.{TWO_TO_64}
 use Rattle.sink_rows.specs.Rows.{open_rows}
 use Rattle.sink_rows.proofs.tree_row.open_rows.Given as goal

@@ -1,11 +1,9 @@
 -- `lexical_errors`: the tokens from here on are logged as all are.
 use Prim.Native.Nat.{◌-◌, ◌/◌, ◌≤◌}
-use mathlib.Core.Path.{◌≡◌, refl, sym, ◌∙◌}
+use mathlib.Core.Path.{◌≡◌}
 use lib.ListN.{length}
-use Rattle.basics.proofs.Flags.{flags}
-use Rattle.sink_tokens.proofs.Runs.{errors_begin, errors_again, errors_end}
 use Rattle.definitions.specs.Layout.{TOKEN_ROW}
-use Rattle.sink_tokens.specs.Tokens.{log, errorsN, errors_on}
+use Rattle.sink_tokens.specs.Tokens.{log, errorsN}
 use Rattle.sink_tokens.proofs.lexical.lexical_errors.Given as goal
 
 abbrev pub invariant-loop-at : goal.invariant-loop-at

@@ -1,11 +1,7 @@
 -- `width_of`: the sum so far and the bytes still to add are all.
-use Prim.Native.Nat.{◌-◌, ◌/◌, ◌≤◌}
-use mathlib.Core.Path.{◌≡◌, refl, sym, ◌∙◌}
-use lib.ListN.{length}
+use mathlib.Core.Path.{refl, sym, ◌∙◌}
 use Rattle.basics.proofs.Flags.{flags}
 use Rattle.sink_tokens.proofs.Runs.{width_again, width_end}
-use Rattle.definitions.specs.Layout.{TOKEN_ROW}
-use Rattle.sink_tokens.specs.Tokens.{widthN}
 use Rattle.sink_tokens.proofs.token_row.width_of.Goals as goal
 
 pub loop-left-init : goal.loop-left-init

@@ -1,9 +1,7 @@
 -- `width_of`: the sum so far and the bytes still to add are all.
 use Prim.Native.Nat.{◌-◌, ◌/◌, ◌≤◌}
-use mathlib.Core.Path.{◌≡◌, refl, sym, ◌∙◌}
+use mathlib.Core.Path.{◌≡◌}
 use lib.ListN.{length}
-use Rattle.basics.proofs.Flags.{flags}
-use Rattle.sink_tokens.proofs.Runs.{width_again, width_end}
 use Rattle.definitions.specs.Layout.{TOKEN_ROW}
 use Rattle.sink_tokens.specs.Tokens.{widthN}
 use Rattle.sink_tokens.proofs.token_row.width_of.Given as goal

@@ -1,10 +1,8 @@
 -- `one_of`: what is in the set is in what is left of it.
-use Rattle.basics.proofs.Flags.{flags}
 use Prim.Native.Nat.{◌-◌, ◌≤◌}
-use mathlib.Core.Path.{◌≡◌, refl, sym, ◌∙◌}
+use mathlib.Core.Path.{◌≡◌}
 use lib.ListN.{length, drop}
 use Rattle.definitions.specs.Token.{one_of}
-use Rattle.token_rows.proofs.Seen.{one_of_found, one_of_next, one_of_none}
 use Rattle.token_rows.proofs.token.one_of.Given as goal
 
 abbrev pub invariant-loop-i : goal.invariant-loop-i

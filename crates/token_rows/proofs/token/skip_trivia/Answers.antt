@@ -1,12 +1,7 @@
 -- `skip_trivia`: what is skipped from here is what is skipped from the start.
 use Rattle.basics.proofs.Flags.{flags}
 use Rattle.token_rows.proofs.Seen.{skip_more, skip_done}
-use Prim.Native.Nat.{◌-◌, ◌/◌, ◌≤◌}
-use mathlib.Core.Path.{◌≡◌, refl, sym, ◌∙◌}
-use lib.ListN.{length, drop}
-use Rattle.definitions.specs.Layout.{TOKEN_ROW}
-use Rattle.definitions.specs.Token.{tokens_of}
-use Rattle.machine.specs.Machine.{Machine, with_cursor, skip}
+use mathlib.Core.Path.{refl, sym, ◌∙◌}
 use Rattle.token_rows.proofs.token.skip_trivia.Goals as goal
 
 pub loop-byte-init : goal.loop-byte-init

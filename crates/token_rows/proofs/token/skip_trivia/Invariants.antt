@@ -1,8 +1,6 @@
 -- `skip_trivia`: what is skipped from here is what is skipped from the start.
-use Rattle.basics.proofs.Flags.{flags}
-use Rattle.token_rows.proofs.Seen.{skip_more, skip_done}
 use Prim.Native.Nat.{◌-◌, ◌/◌, ◌≤◌}
-use mathlib.Core.Path.{◌≡◌, refl, sym, ◌∙◌}
+use mathlib.Core.Path.{◌≡◌}
 use lib.ListN.{length, drop}
 use Rattle.definitions.specs.Layout.{TOKEN_ROW}
 use Rattle.definitions.specs.Token.{tokens_of}

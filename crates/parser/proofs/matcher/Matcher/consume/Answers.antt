@@ -2,7 +2,6 @@
 use Rattle.definitions.specs.Token.{tokens_of}
 use Rattle.parser.specs.View.{view}
 use Rattle.parser.proofs.Programs.{take_kind, take_either, take_name, take_label}
-use borrow.Author.Rules.{rules}
 use Rattle.parser.proofs.matcher.Matcher.consume.Goals as goal
 
 pub returns-in-Kind : goal.returns-in-Kind

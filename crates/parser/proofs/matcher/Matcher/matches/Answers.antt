@@ -4,7 +4,6 @@ use Rattle.definitions.specs.Token.{one_of}
 use Rattle.parser.specs.View.{kinds_of}
 use Rattle.parser.specs.declared.matcher.Matcher.{Matcher}
 use Rattle.parser.proofs.Lists.{kind_is, first_is, second_is}
-use borrow.Author.Rules.{rules}
 use Rattle.parser.proofs.matcher.Matcher.matches.Goals as goal
 
 pub returns-in-Kind : goal.returns-in-Kind

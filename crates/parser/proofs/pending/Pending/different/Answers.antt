@@ -2,7 +2,6 @@
 use Prim.Native.Nat.{ℕ, ◌+◌}
 use mathlib.Core.Path.{ap, ◌∙◌}
 use lib.Count.{ones}
-use borrow.Author.Rules.{rules}
 use Rattle.parser.proofs.pending.Pending.different.Goals as goal
 
 pub returns : goal.returns
