@@ -9,7 +9,7 @@ use Rattle.definitions.specs.TokenKind as K
 use Rattle.definitions.specs.NodeKind as N
 use Rattle.definitions.specs.Token.{one_of}
 use Rattle.basics.proofs.Tests.{and_left, and_right, and_both}
-use Rattle.brackets.specs.Brackets.{Outline, end, leaf, node, is_end, first_leaf, starts_open, begins, has_angle, no_bracket, first_only, after_name, last_only, children_proper, ListOf, cells, values, cell-branches, value-branches, expression, elsewhere, list_below, node_proper, proper}
+use Rattle.brackets.specs.Brackets.{Outline, end, leaf, node, is_end, first_leaf, starts_open, begins, has_angle, no_bracket, first_only, after_name, last_only, children_proper, ListOf, cells, values, cell_branches, value_branches, expression, elsewhere, list_below, node_proper, proper}
 use Rattle.laws.proofs.FactsHold.{or_left, or_right}
 use Rattle.laws.proofs.Leaves.{or_cases}
 use Rattle.brackets.proofs.Bits.{at, below_nil, below_cons}
@@ -21,8 +21,8 @@ use Rattle.brackets.proofs.Summary.{lone_name, named, starts_plain, no_angle, Su
 abbrev pub within : Sum → ListOf → Bool
 within m cells = m.in_cells
 within m values = m.in_values
-within m cell-branches = m.in_cell_branches
-within m value-branches = m.in_value_branches
+within m cell_branches = m.in_cell_branches
+within m value_branches = m.in_value_branches
 within m expression = m.in_expression
 within m elsewhere = true
 
@@ -57,8 +57,8 @@ close k m =
       angleless = true;
       in_cells = (m.plain || (eqb k N.DtExpr && m.begun)) && node_in cells k m;
       in_values = node_in values k m;
-      in_cell_branches = node_in cell-branches k m;
-      in_value_branches = node_in value-branches k m;
+      in_cell_branches = node_in cell_branches k m;
+      in_value_branches = node_in value_branches k m;
       in_expression = (not (eqb k N.ParseError) || m.free) && node_in expression k m;
     }
 
@@ -88,8 +88,8 @@ module _ (m : Sum) (c : Outline) (h : Sums m c) (fit : proper elsewhere c ≡ tr
   unfolding exact
   within_fits cells e = flag 10 e
   within_fits values e = flag 11 e
-  within_fits cell-branches e = flag 12 e
-  within_fits value-branches e = flag 13 e
+  within_fits cell_branches e = flag 12 e
+  within_fits value_branches e = flag 13 e
   within_fits expression e = flag 14 e
   within_fits elsewhere e = fit
 
@@ -152,7 +152,7 @@ module _ (m : Sum) (c : Outline) (h : Sums m c) (fit : proper elsewhere c ≡ tr
             (below_cons (λ e. refl)
             (below_cons (λ e. let s = m.plain || (eqb k N.DtExpr && m.begun) in node_fit cells k ok (starts k (and_left s _ e)) (and_right s _ e))
             (below_cons (λ e. node_fit values k ok refl e)
-            (below_cons (λ e. node_fit cell-branches k ok refl e)
-            (below_cons (λ e. node_fit value-branches k ok refl e)
+            (below_cons (λ e. node_fit cell_branches k ok refl e)
+            (below_cons (λ e. node_fit value_branches k ok refl e)
             (below_cons (λ e. let s = not (eqb k N.ParseError) || m.free in node_fit expression k ok (swept k (and_left s _ e)) (and_right s _ e)) (below_nil _)))))))))))))));
       }

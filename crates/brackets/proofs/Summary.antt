@@ -8,7 +8,7 @@ use mathlib.Core.List.{List, [], ◌∷◌}
 use lib.Dec.{eqb}
 use Rattle.definitions.specs.TokenKind as K
 use Rattle.basics.proofs.Tests.{and_left, and_right, and_both}
-use Rattle.brackets.specs.Brackets.{Outline, end, leaf, node, is_end, first_leaf, begins, has_angle, no_bracket, first_only, last_only, children_proper, ListOf, cells, values, cell-branches, value-branches, expression, list_below, leaf_proper, node_proper, proper}
+use Rattle.brackets.specs.Brackets.{Outline, end, leaf, node, is_end, first_leaf, begins, has_angle, no_bracket, first_only, last_only, children_proper, ListOf, cells, values, cell_branches, value_branches, expression, list_below, leaf_proper, node_proper, proper}
 use Rattle.laws.proofs.FactsHold.{or_right}
 use Rattle.laws.proofs.Leaves.{or_cases}
 use Rattle.brackets.proofs.Bits.{at, Below, below_nil, below_cons}
@@ -77,8 +77,8 @@ exact x =
       angleless = no_angle x;
       in_cells = proper cells x;
       in_values = proper values x;
-      in_cell_branches = proper cell-branches x;
-      in_value_branches = proper value-branches x;
+      in_cell_branches = proper cell_branches x;
+      in_value_branches = proper value_branches x;
       in_expression = proper expression x;
     }
 
@@ -301,7 +301,7 @@ module _ (m n : Sum) (p q : Outline) (h : Sums m p) (g : Sums n q) where
             (below_cons (λ e. pair _ _ e (λ a b. angle_join p q (ha 9 a) (ga 9 b)))
             (below_cons (λ e. pair _ _ e (λ a b. fits_join cells p q (ha 10 a) (ga 10 b)))
             (below_cons (λ e. pair _ _ e (λ a b. fits_join values p q (ha 11 a) (ga 11 b)))
-            (below_cons (λ e. pair _ _ e (λ a b. fits_join cell-branches p q (ha 12 a) (ga 12 b)))
-            (below_cons (λ e. pair _ _ e (λ a b. fits_join value-branches p q (ha 13 a) (ga 13 b)))
+            (below_cons (λ e. pair _ _ e (λ a b. fits_join cell_branches p q (ha 12 a) (ga 12 b)))
+            (below_cons (λ e. pair _ _ e (λ a b. fits_join value_branches p q (ha 13 a) (ga 13 b)))
             (below_cons (λ e. pair _ _ e (λ a b. fits_join expression p q (ha 14 a) (ga 14 b))) (below_nil _)))))))))))))));
       }

@@ -4,7 +4,7 @@ use mathlib.Core.Path.{◌≡◌, refl, subst}
 use mathlib.Core.Bool.{Bool, true, false, ◌&&◌, false≢true}
 use mathlib.Core.List.{List}
 use Rattle.definitions.specs.TokenKind as K
-use Rattle.brackets.specs.Brackets.{Outline, end, leaf, proper, elsewhere, values, cell-branches, value-branches, expression, leaves_only, is_end, no_bracket, first_only, last_only, begins, first_leaf, has_angle}
+use Rattle.brackets.specs.Brackets.{Outline, end, leaf, proper, elsewhere, values, cell_branches, value_branches, expression, leaves_only, is_end, no_bracket, first_only, last_only, begins, first_leaf, has_angle}
 use Rattle.brackets.specs.Brackets as B
 use Rattle.brackets.proofs.Bits.{at, Below, below_then, below_left, below_right, below_same, below_nil, below_cons}
 use Rattle.brackets.proofs.Summary.{Sum, bits, exact, Sums, lone_name, named, starts_plain, no_angle}
@@ -143,7 +143,7 @@ leaves =
     }
 
 pub leaves_fit : (x : Outline) → leaves_only x ≡ true
-    → (proper elsewhere x ≡ true) × (proper values x ≡ true) × (proper cell-branches x ≡ true) × (proper value-branches x ≡ true) × (proper expression x ≡ true)
+    → (proper elsewhere x ≡ true) × (proper values x ≡ true) × (proper cell_branches x ≡ true) × (proper value_branches x ≡ true) × (proper expression x ≡ true)
 unfolding leaves_only proper
 leaves_fit end e = (refl, refl, refl, refl, refl)
 leaves_fit (leaf k f) e = leaves_fit f e

@@ -100,15 +100,15 @@ children_proper k c =
 -- where rows stand side by side: in a list of cells, in a list of values, among the branches of a conditional in one of
 -- these, in a DtExpr at whatever depth, or elsewhere
 pub data ListOf : Type 0 where
-  cells values cell-branches value-branches expression elsewhere : ListOf
+  cells values cell_branches value_branches expression elsewhere : ListOf
 
 -- A node of kind k stands in x; where do its children stand? angle: an LAngle is among them. A list of cells that was
 -- cut off is a ParseError in a list of values, and has its LAngle as a child, as no other ParseError there does.
 abbrev pub inside_other : ListOf → ℕ → Bool → ListOf
-inside_other cells k angle = cond (eqb k N.PreprocessorConditional) cell-branches elsewhere
-inside_other values k angle = cond (eqb k N.PreprocessorConditional) value-branches (cond (eqb k N.ParseError && angle) cells elsewhere)
-inside_other cell-branches k angle = cond (eqb k N.PreprocessorBranch) cells elsewhere
-inside_other value-branches k angle = cond (eqb k N.PreprocessorBranch) values elsewhere
+inside_other cells k angle = cond (eqb k N.PreprocessorConditional) cell_branches elsewhere
+inside_other values k angle = cond (eqb k N.PreprocessorConditional) value_branches (cond (eqb k N.ParseError && angle) cells elsewhere)
+inside_other cell_branches k angle = cond (eqb k N.PreprocessorBranch) cells elsewhere
+inside_other value_branches k angle = cond (eqb k N.PreprocessorBranch) values elsewhere
 inside_other expression k angle = expression
 inside_other elsewhere k angle = elsewhere
 
@@ -122,8 +122,8 @@ list_below x k angle =
 abbrev pub leaf_proper : ListOf → ℕ → Bool
 leaf_proper cells k = not (eqb k K.LParen)
 leaf_proper values k = true
-leaf_proper cell-branches k = true
-leaf_proper value-branches k = true
+leaf_proper cell_branches k = true
+leaf_proper value_branches k = true
 leaf_proper expression k = true
 leaf_proper elsewhere k = true
 
@@ -132,8 +132,8 @@ leaf_proper elsewhere k = true
 abbrev pub node_proper : ListOf → ℕ → Outline → Bool
 node_proper cells k c = not (starts_open c) || (eqb k N.DtExpr && begins c)
 node_proper values k c = true
-node_proper cell-branches k c = true
-node_proper value-branches k c = true
+node_proper cell_branches k c = true
+node_proper value_branches k c = true
 node_proper expression k c = not (eqb k N.ParseError) || no_bracket c
 node_proper elsewhere k c = true
 

@@ -59,38 +59,38 @@ abbrev under : ℕ → Row
 under p = 1 ∷ 38 ∷ 1 ∷ 1 ∷ p ∷ []
 
 -- under row 8, where the semicolon of one file is row 6 and that of the other row 9
-abbrev Row_is : Row → Type 0
-Row_is = TreeMoved 6 9 (under 8)
+abbrev RowIs : Row → Type 0
+RowIs = TreeMoved 6 9 (under 8)
 
-right_row : Row_is (under 11)
+right_row : RowIs (under 11)
 right_row = record { same_class = refl; same_kind = refl; same_width = refl; same_count = refl; parent_moves = row (λ e. omega (arith, e)) (λ e. omega (arith, e)) refl }
 
-another_class : Row_is (0 ∷ 38 ∷ 1 ∷ 1 ∷ 11 ∷ []) → ⊥
+another_class : RowIs (0 ∷ 38 ∷ 1 ∷ 1 ∷ 11 ∷ []) → ⊥
 another_class r = omega (arith, r.same_class)
 
-another_kind : Row_is (1 ∷ 37 ∷ 1 ∷ 1 ∷ 11 ∷ []) → ⊥
+another_kind : RowIs (1 ∷ 37 ∷ 1 ∷ 1 ∷ 11 ∷ []) → ⊥
 another_kind r = omega (arith, r.same_kind)
 
-another_width : Row_is (1 ∷ 38 ∷ 2 ∷ 1 ∷ 11 ∷ []) → ⊥
+another_width : RowIs (1 ∷ 38 ∷ 2 ∷ 1 ∷ 11 ∷ []) → ⊥
 another_width r = omega (arith, r.same_width)
 
-another_count : Row_is (1 ∷ 38 ∷ 1 ∷ 2 ∷ 11 ∷ []) → ⊥
+another_count : RowIs (1 ∷ 38 ∷ 1 ∷ 2 ∷ 11 ∷ []) → ⊥
 another_count r = omega (arith, r.same_count)
 
 -- not where it was, not moved the other way, and not the root
-parent_stays : Row_is (under 8) → ⊥
+parent_stays : RowIs (under 8) → ⊥
 parent_stays r = go (two_parents r.parent_moves) where
   go : TwoParents 6 9 8 8 → ⊥
   go (inl z) = omega arith
   go (inr m) = omega arith
 
-parent_backwards : Row_is (under 5) → ⊥
+parent_backwards : RowIs (under 5) → ⊥
 parent_backwards r = go (two_parents r.parent_moves) where
   go : TwoParents 6 9 8 5 → ⊥
   go (inl z) = omega arith
   go (inr m) = omega arith
 
-parent_lost : Row_is (under 0) → ⊥
+parent_lost : RowIs (under 0) → ⊥
 parent_lost r = go (two_parents r.parent_moves) where
   go : TwoParents 6 9 8 0 → ⊥
   go (inl z) = omega arith
