@@ -100,20 +100,6 @@ module _ (e : Entry) (setting : ℕ) (bytes tokens : List ℕ) (b : Buffers) (n 
   unfolding call asked
   known_entry h = h ∙ ap (λ (w : Asked). asked w setting bytes tokens b) k
 
-  -- entries 1 to 4: the checks of the input, and the parse
-  pub refused_call : (a : Answer) → x ≡ result_of a b → Refused a bytes tokens → x ≡ call n setting bytes tokens b
-  unfolding checked
-  refused_call a h r =
-      known_entry
-      (h
-      ∙ ap (λ (y : _). record { answer = y; buffers = b }) r.answer
-      ∙ sym (ap (λ (w : Verdict). checked w e setting bytes tokens b) r.verdict))
-
   pub sound_call : check_input bytes tokens ≡ accepted → x ≡ parse e setting bytes (tokens_of tokens) b → x ≡ call n setting bytes tokens b
   unfolding checked
   sound_call v h = known_entry (h ∙ sym (ap (λ (w : Verdict). checked w e setting bytes tokens b) v))
-
--- cause 1
-pub other_entry : (setting : ℕ) (bytes tokens : List ℕ) (b : Buffers) (n : ℕ) (a : Answer) → unknown ≡ entry_of n → answer_of a ≡ refusal unknown_entry → result_of a b ≡ call n setting bytes tokens b
-unfolding call asked
-other_entry setting bytes tokens b n a k h = ap (λ (z : _). record { answer = z; buffers = b }) h ∙ ap (λ (w : Asked). asked w setting bytes tokens b) k

@@ -94,12 +94,6 @@ module _ (e : Entrypoint) (setting : ℕ) (bytes tokens tokens' tokens'' : List 
 
 -- ---------------------------------------------------------------- by the entry's number
 
-pub no_such_entry : (setting : ℕ) (bytes tokens : List ℕ) (b : Buffers) (n : ℕ) (a : TextAnswer) → unknown ≡ entry_of n
-    → a ≡ refused_text_with (text_number unknown_entry) (text_place unknown_entry) → text_result_of a tokens b ≡ text_call n setting bytes tokens b
-unfolding text_call asked_text
-no_such_entry setting bytes tokens b n a k f =
-    refused_as unknown_entry tokens tokens b a f refl ∙ ap (λ (w : Asked). asked_text w n setting bytes tokens b) k
-
 pub known_entry : (e : Entrypoint) (setting : ℕ) (bytes tokens : List ℕ) (b : Buffers) (n : ℕ) (x : TextResult) → for (entry_for e) ≡ entry_of n
     → x ≡ entry_text e setting bytes tokens b → x ≡ text_call n setting bytes tokens b
 unfolding text_call asked_text entry_text entry_checked checked_text

@@ -130,18 +130,3 @@ module _ (q : Query) (setting : ℕ) (bytes tokens : List ℕ) (b : Buffers) (li
         (listless (result_of a c) (zeros list)))
         n)
         ∙ ap wanted parsed
-
--- ---------------------------------------------------------------- the checks before it
-
-module _ (q : Query) (setting : ℕ) (bytes tokens : List ℕ) (b : Buffers) (list : List ℕ) where
-  pub sound_query : check_input bytes tokens ≡ accepted
-      → with_list (listed q (length bytes) (source_tree (tokens_of tokens))) list b (parse SourceFile setting bytes (tokens_of tokens) b) ≡ query_call q setting bytes tokens b list
-  unfolding query_call checked_query
-  sound_query ok = sym (ap (λ (v : Verdict). checked_query v q setting bytes tokens b list) ok)
-
-  pub refused_query : (a : Answer) (x : ListAnswer) → Refused a bytes tokens → x ≡ counted a 0 → list_result_of x list b ≡ query_call q setting bytes tokens b list
-  unfolding query_call checked_query
-  refused_query a x r e =
-      ap (λ (y : ListAnswer). list_result_of y list b) e
-      ∙ ap (λ (y : _). listless (record { answer = y; buffers = b }) list) r.answer
-      ∙ sym (ap (λ (v : Verdict). checked_query v q setting bytes tokens b list) r.verdict)

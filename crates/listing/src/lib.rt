@@ -23,12 +23,7 @@ pub fn without_list(a: Answer) -> ListAnswer
 
 // After an accepted parse, and a list of so many numbers, of which those that fit stand at the front of its buffer. One
 // that does not fit is cause 8: nothing is kept. The events are zero already after a parse.
-pub fn finish(
-    a: Answer,
-    count: usize,
-    buffers: &mut Buffers<'_>,
-    list: &mut [u32],
-) -> ListAnswer
+pub fn finish(a: Answer, count: usize, buffers: &mut Buffers<'_>, list: &mut [u32]) -> ListAnswer
     ensures same { SameSlices buffers.old buffers.new }
     ensures ended { list_result_of result list.new (held buffers.new)
         ≡ ended a count list.old (held buffers.old) }
