@@ -57,17 +57,13 @@ fn answer_of_run(
     ensures pool { buffers.new.pool.now ≡ buffers.old.pool.now }
     ensures answer { AnswerOfRun root_kind filled input.entry (held buffers.old) result (held buffers.new) }
 {
-    let Input {
-        setting,
-        bytes,
-        tokens,
-    } = input;
+    let tokens = input.tokens;
     let events = &mut buffers.events[..filled.events];
     let sunk = sink::finish(root_kind, tokens, events, buffers.trees, buffers.errors);
     let names = report_names(
-        setting,
+        input.setting,
         root_kind,
-        bytes,
+        input.bytes,
         tokens,
         events,
         buffers.reports,
