@@ -9,10 +9,10 @@ use lib.ListN.{length}
 use Rattle.std.specs.Prelude.{IfOk}
 use borrow.Author.Tests.{eqb-true, eqb-false}
 use Rattle.definitions.specs.Token.{tokens_of}
-use Rattle.definitions.specs.Refusal.{unknown_entry, Verdict, accepted, number_of, place_of}
+use Rattle.definitions.specs.Refusal.{Verdict, accepted, number_of, place_of}
 use Rattle.definitions.specs.RowCauses.{check_input}
 use Rattle.definitions.specs.Grammar.{Entry, root_kind}
-use Rattle.definitions.specs.Call.{Buffers, Result, refusal, parse, Asked, for, unknown, entry_of, checked, asked, call}
+use Rattle.definitions.specs.Call.{Buffers, Result, parse, Asked, for, entry_of, checked, asked, call}
 use Rattle.machine.specs.Machine.{Machine}
 use Rattle.sink.specs.declared.Sunk.{Sunk}
 use Rattle.sink.specs.declared.Sunk.TheVariants.{Written, NoRoom}
@@ -20,8 +20,7 @@ use Rattle.labels.specs.declared.report.Names.{Names}
 use Rattle.refinement.specs.Ends.{swept, refused_at, sunk_answer, last_answer, after_all, SameLengths, Parsed, CallEnds}
 use Rattle.refinement.proofs.Ends.{calls_end}
 use Rattle.call.specs.declared.Answer.{Answer}
-use Rattle.call.specs.Result.{answer_of, result_of}
-use Rattle.call.specs.Checked.{Refused}
+use Rattle.call.specs.Result.{answer_of}
 use Rattle.call.specs.declared.lent.Input.{Input}
 use Rattle.call.specs.declared.outcome.Filled.{Filled}
 use Rattle.call.specs.Ended.{refused_with, sunk_with, named_with, run_of, AnswerOfRun, Ended}

@@ -1,5 +1,5 @@
 -- A call over a text, put together as the code does: refused before the parse, or its rows parsed and kept.
-use Prim.Native.Nat.{ℕ, ◌-◌, ◌/◌, ◌≤◌}
+use Prim.Native.Nat.{ℕ, ◌/◌, ◌≤◌}
 use native.Mathlib.Omega.{arith}
 use mathlib.Core.Path.{◌≡◌, refl, sym, ◌∙◌, ap}
 use mathlib.Core.Bool.{cond}
@@ -14,7 +14,7 @@ use Rattle.definitions.specs.RowCauses.{check_input}
 use Rattle.definitions.specs.Lex.{lex}
 use Rattle.definitions.specs.Call.{Buffers, Asked, for, unknown, entry_of, written}
 use Rattle.definitions.specs.Call as Call
-use Rattle.definitions.specs.Text.{TextRefusal, unknown_entry, text_number, text_place, TextVerdict, sound, unsound, numbers_of, check_text, TextResult, unchanged, with_rows, checked_text, asked_text, text_call}
+use Rattle.definitions.specs.Text.{TextRefusal, text_number, text_place, TextVerdict, sound, unsound, numbers_of, check_text, TextResult, unchanged, with_rows, checked_text, asked_text, text_call}
 use Rattle.lexing.proofs.RowsPass.{rows_pass}
 use Rattle.lexer.specs.declared.check.Checked.{Checked}
 use Rattle.lexer.specs.declared.check.Checked.TheVariants as C

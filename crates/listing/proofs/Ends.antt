@@ -10,10 +10,10 @@ use borrow.Author.Tests.{eqb-true, leb-true}
 use Rattle.definitions.specs.Layout.{TREE_ROW, NO_TREE_ROOM}
 use Rattle.definitions.specs.Token.{tokens_of}
 use Rattle.definitions.specs.Grammar.{SourceFile}
-use Rattle.definitions.specs.Refusal.{Verdict, accepted, no_tree_room, number_of, place_of}
+use Rattle.definitions.specs.Refusal.{accepted, no_tree_room, number_of, place_of}
 use Rattle.definitions.specs.RowCauses.{check_input}
 use Rattle.definitions.specs.Call.{Buffers, Result, cleared, zeros, written, parse, call}
-use Rattle.definitions.specs.Caret.{Query, listed, source_tree, ListResult, listless, with_list, checked_query, query_call}
+use Rattle.definitions.specs.Caret.{Query, listed, source_tree, ListResult, listless, with_list}
 use Rattle.rows.specs.OnePass.{tree_rows_of, found, Sound}
 use Rattle.rows.proofs.Written.{rows_of}
 use Rattle.queries.proofs.SoundRows.{FileRows, file_rows}
@@ -23,7 +23,6 @@ use Rattle.caret.proofs.Chains.{laid_length}
 use Rattle.refinement.specs.Ends.{wiped, SameLengths}
 use Rattle.call.specs.declared.Answer.{Answer}
 use Rattle.call.specs.declared.list.ListAnswer.{ListAnswer}
-use Rattle.call.specs.Checked.{Refused}
 use Rattle.call.specs.Ended.{refused_with}
 use Rattle.call.specs.Result.{answer_of, buffers_of, result_of, list_result_of}
 use Rattle.call.proofs.TextRows.{rows_and_zeros, all_zeros}

@@ -1,5 +1,4 @@
 -- `answer_text`: entries 1 to 4.
-use Rattle.std.proofs.Common.{sym, ap, ◌∙◌}
 use Rattle.dt_parser.proofs.TextCalls.{known_entry}
 use Rattle.dt_parser.proofs.text.answer_text.Goals as goal
 
