@@ -1,4 +1,4 @@
--- What the exported call's proof cites: the parse with what is done after it, and the ways around it.
+-- What the exported call's proof cites: the parse with what is done after it.
 use Prim.Native.Nat.{ℕ, ◌≤◌}
 use native.Mathlib.Omega.{arith}
 use mathlib.Core.Path.{◌≡◌, refl, ap, sym, ◌∙◌}
@@ -24,8 +24,6 @@ use Rattle.call.specs.Result.{answer_of}
 use Rattle.call.specs.declared.lent.Input.{Input}
 use Rattle.call.specs.declared.outcome.Filled.{Filled}
 use Rattle.call.specs.Ended.{refused_with, sunk_with, named_with, run_of, AnswerOfRun, Ended}
-
--- ---------------------------------------------------------------- the parse
 
 same_sunk : (s : Sunk) (r p : ℕ) → answer_of (sunk_with s r p) ≡ sunk_answer s r p
 unfolding number_of place_of
@@ -91,14 +89,3 @@ module _ (e : Entry) (input : Input) (b : Buffers) (m : Machine) (ok : check_inp
 
     pub finished : x ≡ parse e input.setting input.bytes.now (tokens_of input.tokens.now) b
     finished = sym h.once_cleared ∙ by_refusal (eqb m.refusal 0) refl
-
--- ---------------------------------------------------------------- around it
-
-module _ (e : Entry) (setting : ℕ) (bytes tokens : List ℕ) (b : Buffers) (n : ℕ) (x : Result) (k : for e ≡ entry_of n) where
-  known_entry : x ≡ checked (check_input bytes tokens) e setting bytes tokens b → x ≡ call n setting bytes tokens b
-  unfolding call asked
-  known_entry h = h ∙ ap (λ (w : Asked). asked w setting bytes tokens b) k
-
-  pub sound_call : check_input bytes tokens ≡ accepted → x ≡ parse e setting bytes (tokens_of tokens) b → x ≡ call n setting bytes tokens b
-  unfolding checked
-  sound_call v h = known_entry (h ∙ sym (ap (λ (w : Verdict). checked w e setting bytes tokens b) v))

@@ -1,3 +1,2 @@
--- What the proofs of the functions share, and what the exported call's cite.
+-- What the exported call's proof cites.
 pub mod Called
-pub mod TextRows

@@ -24,8 +24,7 @@ use Rattle.call.specs.declared.Answer.{Answer}
 use Rattle.call.specs.declared.text.TextAnswer.{TextAnswer}
 use Rattle.call.specs.Result.{answer_of, result_of, text_result_of}
 use Rattle.call.specs.Text.{refused_text_with, rows_kept, rows_left}
-use Rattle.call.proofs.Called.{sound_call}
-use Rattle.call.proofs.TextRows.{rows_and_zeros, all_zeros}
+use Rattle.refinement.proofs.Wiped.{wiped_whole, wiped_written}
 use Rattle.grammar.specs.declared.entry.Entrypoint.{Entrypoint}
 use Rattle.grammar.specs.Subprograms.{entry_for}
 use Rattle.dt_parser.specs.Asked.{entry_checked, entry_text}
@@ -80,7 +79,7 @@ module _ (e : Entrypoint) (setting : ℕ) (bytes tokens tokens' tokens'' : List 
       λ i. record {
         answer = answer_of a;
         token_count = cond (eqb a.number 0) (w.count i / TOKEN_ROW) 0;
-        tokens = cond (eqb a.number 0) (rows_and_zeros (numbers_of (lex bytes)) tokens tokens' n w.front w.count w.same_length i) (all_zeros tokens tokens' w.same_length i);
+        tokens = cond (eqb a.number 0) (wiped_written (numbers_of (lex bytes)) tokens tokens' n w.same_length w.count w.front i) (wiped_whole tokens tokens' w.same_length i);
         buffers = b';
       }
 
@@ -96,7 +95,7 @@ module _ (e : Entrypoint) (setting : ℕ) (bytes tokens tokens' tokens'' : List 
 
 pub known_entry : (e : Entrypoint) (setting : ℕ) (bytes tokens : List ℕ) (b : Buffers) (n : ℕ) (x : TextResult) → for (entry_for e) ≡ entry_of n
     → x ≡ entry_text e setting bytes tokens b → x ≡ text_call n setting bytes tokens b
-unfolding text_call asked_text entry_text entry_checked checked_text
+unfolding text_call asked_text entry_text entry_checked checked_text Call.call Call.asked Call.checked
 known_entry e setting bytes tokens b n x k h = h ∙ go (check_text bytes (lex bytes) (length tokens)) refl ∙ ap (λ (w : Asked). asked_text w n setting bytes tokens b) k
   where
     rows : List ℕ
@@ -107,4 +106,4 @@ known_entry e setting bytes tokens b n x k h = h ∙ go (check_text bytes (lex b
     go (unsound q) f = refl
     go sound f =
         let s = sound_text bytes (length tokens) (sym f) in
-        ap (with_rows rows tokens) (sound_call (entry_for e) setting bytes rows b n (Call.parse (entry_for e) setting bytes (tokens_of rows) b) k (rows_pass bytes s.few s.allowed) refl)
+        ap (with_rows rows tokens) (rw (← k, rows_pass bytes s.few s.allowed))

@@ -7,6 +7,7 @@ use mathlib.Core.List.{List, [], ◌∷◌}
 use lib.Dec.{leb, eqb}
 use lib.ListN.{length, take}
 use borrow.Author.Tests.{eqb-true, leb-true}
+use Rattle.std.proofs.lemmas.Grind.{common_steps}
 use Rattle.definitions.specs.Layout.{TREE_ROW, NO_TREE_ROOM}
 use Rattle.definitions.specs.Token.{tokens_of}
 use Rattle.definitions.specs.Grammar.{SourceFile}
@@ -25,17 +26,13 @@ use Rattle.call.specs.declared.Answer.{Answer}
 use Rattle.call.specs.declared.list.ListAnswer.{ListAnswer}
 use Rattle.call.specs.Ended.{refused_with}
 use Rattle.call.specs.Result.{answer_of, buffers_of, result_of, list_result_of}
-use Rattle.call.proofs.TextRows.{rows_and_zeros, all_zeros}
+use Rattle.refinement.proofs.Wiped.{wiped_whole, wiped_written}
 use Rattle.listing.specs.Listed.{counted, ended, list_ends}
 
 -- a list that fits stands whole at the front of its buffer
 front_laid : (l b : List ℕ) → length l ≤ length b → take (length l) (laid l b) ≡ l
 unfolding laid
-front_laid [] b h = none_taken b
-  where
-    none_taken : (b : List ℕ) → take 0 b ≡ []
-    none_taken [] = refl
-    none_taken (x ∷ b) = refl
+front_laid [] b h = grind (arith, common_steps)
 front_laid (x ∷ l) [] h = absurd (omega (arith, h))
 front_laid (x ∷ l) (y ∷ b) h = ap (x ∷◌) (front_laid l b (omega (arith, h)))
 
@@ -53,7 +50,7 @@ module _ (q : Query) (setting : ℕ) (bytes tokens : List ℕ) (b : Buffers) (li
   unfolding with_list
   parse_refused x list' n e f =
       (λ i. list_result_of (e i) (f i) c)
-      ∙ ap (λ (l : List ℕ). list_result_of (counted a 0) l c) (all_zeros list list refl)
+      ∙ ap (λ (l : List ℕ). list_result_of (counted a 0) l c) (wiped_whole list list refl)
       ∙ sym
       (ap
       (λ (t : Bool).
@@ -103,11 +100,11 @@ module _ (q : Query) (setting : ℕ) (bytes tokens : List ℕ) (b : Buffers) (li
     unfolding number_of place_of
     by_room s true e =
         ap (λ (l : List ℕ). list_result_of (counted a (length lists)) l c)
-        (rows_and_zeros lists list (laid lists list) (length lists) (front_laid lists list (leb-true _ _ e)) refl (laid_length lists list))
+        (wiped_written lists list (laid lists list) (length lists) (laid_length lists list) refl (front_laid lists list (leb-true _ _ e)))
     by_room s false e =
         λ i.
-        list_result_of (counted (refused_with NO_TREE_ROOM 0) 0) (all_zeros list (laid lists list) (laid_length lists list) i)
-        (buffers_of (events_zero i) (all_zeros b.trees c.trees s.trees i) (all_zeros b.errors c.errors s.errors i) (all_zeros b.reports c.reports s.reports i) (all_zeros b.pool c.pool s.pool i))
+        list_result_of (counted (refused_with NO_TREE_ROOM 0) 0) (wiped_whole list (laid lists list) (laid_length lists list) i)
+        (buffers_of (events_zero i) (wiped_whole b.trees c.trees s.trees i) (wiped_whole b.errors c.errors s.errors i) (wiped_whole b.reports c.reports s.reports i) (wiped_whole b.pool c.pool s.pool i))
 
     -- accepted: its list is kept, or nothing is
     pub parse_listed : (s : SameLengths b c) (y : ListResult) → y ≡ list_ends q a (length bytes) list c → y ≡ wanted (parse SourceFile setting bytes (tokens_of tokens) b)
