@@ -8,8 +8,7 @@ use Rattle.definitions.specs.TokenKind as K
 use Rattle.sink_rows.specs.Rows.{FIRST_BYTE, CHILDREN_BEFORE, put, tree_field, field, links, open_rows}
 use Rattle.sink_tokens.specs.Tokens.{kind_seen, trivia_here, at_most, widthN, Log, log, errors_on}
 use Rattle.sink.specs.declared.Sink.{Sink}
-use Rattle.sink.specs.declared.Sunk.{Sunk}
-use Rattle.sink.specs.declared.Sunk.TheVariants.{Written, NoRoom}
+use Rattle.sink.specs.Sunk.{Sunk, written, no_room}
 
 -- ---------------------------------------------------------------- the sink with the tree rows
 
@@ -103,7 +102,7 @@ pub data Finished : Type 0 where
 -- in buffers of so many numbers
 unfoldable pub finished_in : ℕ → ℕ → On → Log → Finished
 finished_in tree-numbers error-numbers (on s trees) (log n errors) =
-    finished (cond (leb (s.rows * TREE_ROW) tree-numbers && leb (n * ERROR_ROW) error-numbers) (Written s.rows n) NoRoom) trees errors
+    finished (cond (leb (s.rows * TREE_ROW) tree-numbers && leb (n * ERROR_ROW) error-numbers) (written s.rows n) no_room) trees errors
 
 unfoldable pub finish_all : ℕ → List ℕ → List ℕ → List ℕ → List ℕ → Finished
 unfolding finished_in events_on errors_on
