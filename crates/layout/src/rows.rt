@@ -1,6 +1,6 @@
 // Rows of N numbers, one after another in a lent buffer.
-ghost use Rattle.std.specs.Prelude.{◌≡◌, ◌*◌, ◌/◌, ◌<◌, leb, length};
-ghost use Rattle.layout.specs.Rows.{put_row, field};
+ghost use Rattle.std.specs.Prelude.{◌≡◌, ◌*◌, ◌/◌, ◌<◌, ◌≤◌, leb, length, MatchOption};
+ghost use Rattle.layout.specs.Rows.{put_row, field, IsRow};
 
 // How many whole rows a buffer has.
 pub fn row_count<const N: usize>(buffer: &[u32]) -> usize
@@ -36,4 +36,12 @@ pub fn field<const N: usize>(buffer: &[u32], row: usize, column: usize) -> u32
     } else {
         0
     }
+}
+
+// A row, if there are so many.
+pub fn row_at<const N: usize>(buffer: &[u32], row: usize) -> Option<&[u32; N]>
+    requires { 0 < N }
+    ensures { MatchOption result (length buffer.now / N ≤ row) (λ r. IsRow N buffer.now row r.now) }
+{
+    buffer.as_chunks().0.get(row)
 }
