@@ -7,8 +7,13 @@ ghost use Rattle.definitions.specs.Layout.{TOKEN_ROW};
 ghost use Rattle.sink.specs.Promise.{Promise};
 ghost use Rattle.sink.specs.Model.{on, leaf_on, token_on, trivia_on, combined_on, start_on, finish_on, event_on, events_on, root_on, finished, finish_all};
 
-use layout::{event_tag, row, row_kind, word};
-use sink_rows::{event_row, tree_row};
+use layout::row::{
+    EVENT_ARGUMENT, EVENT_ROW, EVENT_TAG, LEAF, NODE, TOKEN_ROW, TREE_KIND, TREE_PARENT, TREE_ROW,
+};
+use layout::rows::{field, row_at, row_count};
+use layout::{event_tag, row_kind, word};
+use sink_rows::event_row::links;
+use sink_rows::tree_row::{CHILDREN_BEFORE, FIRST_BYTE, open_rows, rows_fit, write_row};
 use sink_tokens::{lexical, token_row};
 
 #[derive(Clone, Copy)]
@@ -41,7 +46,7 @@ impl Sink {
         ensures { on result trees.new
             ≡ root_on kind trees.old }
     {
-        tree_row::write_row(trees, 0, row::NODE, kind, 0, 0, 0);
+        write_row(trees, 0, [NODE, kind, 0, 0, 0]);
         Sink {
             cursor: 0,
             byte: 0,
@@ -58,7 +63,7 @@ impl Sink {
             ≡ leaf_on kind width count (on self.old trees.old) }
         ensures cursor_value { self.new.cursor ≡ self.old.cursor }
     {
-        tree_row::write_row(trees, self.rows, row::LEAF, kind, width, count, self.node);
+        write_row(trees, self.rows, [LEAF, kind, width, count, self.node]);
         self.byte = word::add(self.byte, width);
         self.rows = word::add(self.rows, 1);
         self.children = word::add(self.children, 1);
@@ -72,12 +77,9 @@ impl Sink {
         ensures cursor_in_bounds { length tokens.now / TOKEN_ROW - self.new.cursor
             ≤ length tokens.now / TOKEN_ROW - self.old.cursor - 1 }
     {
-        let at = self.cursor;
-        if at < tokens.len() / row::TOKEN_ROW {
-            let kind = token_row::leaf_kind(tokens[at * row::TOKEN_ROW]);
-            let width = tokens[at * row::TOKEN_ROW + row::TOKEN_LENGTH];
-            self.cursor = at + 1;
-            self.leaf(trees, kind, width, 1);
+        if let Some([kind, width]) = row_at::<TOKEN_ROW>(tokens, self.cursor) {
+            self.cursor += 1;
+            self.leaf(trees, token_row::leaf_kind(*kind), *width, 1);
         }
     }
 
@@ -97,11 +99,12 @@ impl Sink {
         ensures { on self.new trees.new
             ≡ combined_on tokens.now n (on self.old trees.old) }
     {
-        let at = self.cursor;
-        let k = token_row::at_most(n, token_row::count_from(tokens, at));
-        let width = token_row::width_of(tokens, at, k);
-        self.cursor = at + k;
-        self.leaf(trees, row_kind::NAME, width, word::low32(k));
+        let taken = row_count::<TOKEN_ROW>(tokens)
+            .saturating_sub(self.cursor)
+            .min(n);
+        let width = token_row::width_of(tokens, self.cursor, taken);
+        self.cursor += taken;
+        self.leaf(trees, row_kind::NAME, width, word::low32(taken));
     }
 
     // `StartNode`: opens the nodes of the chain that starts at event i, outermost first. Its links are counted first,
@@ -111,8 +114,8 @@ impl Sink {
         ensures { on self.new trees.new
             ≡ start_on events.now i (on self.old trees.old) }
     {
-        let n = word::low32(event_row::links(events, i));
-        tree_row::open_rows(
+        let n = word::low32(links(events, i));
+        open_rows(
             trees,
             events,
             i,
@@ -133,13 +136,13 @@ impl Sink {
         ensures { on self.new trees.new
             ≡ finish_on (on self.old trees.old) }
     {
-        let node = self.node;
-        let parent = tree_row::field(trees, node, row::TREE_PARENT);
-        let kind = tree_row::field(trees, node, row::TREE_KIND);
-        let first = tree_row::field(trees, node, tree_row::FIRST_BYTE);
-        let children = tree_row::field(trees, node, tree_row::CHILDREN_BEFORE);
+        let node = self.node as usize;
+        let parent = field::<TREE_ROW>(trees, node, TREE_PARENT);
+        let kind = field::<TREE_ROW>(trees, node, TREE_KIND);
+        let first = field::<TREE_ROW>(trees, node, FIRST_BYTE);
+        let children = field::<TREE_ROW>(trees, node, CHILDREN_BEFORE);
         let width = word::minus(self.byte, first);
-        tree_row::write_row(trees, node, row::NODE, kind, width, self.children, parent);
+        write_row(trees, self.node, [NODE, kind, width, self.children, parent]);
         self.node = parent;
         self.children = word::add(children, 1);
     }
@@ -151,7 +154,7 @@ impl Sink {
         ensures { on self.new trees.new
             ≡ event_on tokens.now events.now i (on self.old trees.old) }
     {
-        match event_row::field(events, i, row::EVENT_TAG) {
+        match field::<EVENT_ROW>(events, i, EVENT_TAG) {
             event_tag::START_NODE => {
                 self.eat_trivia(tokens, trees);
                 self.start_node(events, trees, i);
@@ -161,7 +164,7 @@ impl Sink {
                 self.token(tokens, trees);
             }
             event_tag::ADD_COMBINED_TOKEN => {
-                let n = word::wide(event_row::field(events, i, row::EVENT_ARGUMENT));
+                let n = field::<EVENT_ROW>(events, i, EVENT_ARGUMENT) as usize;
                 self.eat_trivia(tokens, trees);
                 self.combined_token(tokens, trees, n);
             }
@@ -172,13 +175,13 @@ impl Sink {
 }
 
 // All events, and the trivia at the end.
-#[tactic(auto, using(crate::proofs::Loops::events_more, crate::proofs::Loops::events_done), unfolding(crate::specs::Model::events_on))]
+#[tactic(auto, using(crate::proofs::Loops::events_done), unfolding(crate::specs::Model::events_on))]
 fn all_events(kind: u32, tokens: &[u32], events: &[u32], trees: &mut [u32]) -> Sink
     ensures { on result trees.new
         ≡ events_on kind tokens.now events.now trees.old }
 {
     let mut sink = Sink::root_node(trees, kind);
-    for i in 0..events.len() / row::EVENT_ROW {
+    for i in 0..row_count::<EVENT_ROW>(events) {
         sink.one_event(tokens, events, trees, i);
     }
     sink.eat_trivia(tokens, trees);
@@ -205,7 +208,7 @@ pub fn finish(
     let errors_len = errors.len();
     let sink = all_events(root_kind, tokens, events, trees);
     let found = lexical::lexical_errors(tokens, errors);
-    if tree_row::rows_fit(trees_len, sink.rows) && lexical::errors_fit(errors_len, found) {
+    if rows_fit(trees_len, sink.rows) && lexical::errors_fit(errors_len, found) {
         Ok(Written {
             rows: sink.rows,
             errors: found,
