@@ -1,4 +1,3 @@
 -- What the proofs of the functions share, and what the exported call's cite.
-pub mod Ways
 pub mod Called
 pub mod TextRows

@@ -20,7 +20,7 @@ use Rattle.queries.proofs.SoundRows.{FileRows, file_rows}
 use Rattle.queries.proofs.Parsed.{parse_is_call, Left, what_is_left, rows_fit, rows_read}
 use Rattle.caret.specs.Walk.{laid}
 use Rattle.caret.proofs.Chains.{laid_length}
-use Rattle.refinement.specs.Ends.{wiped}
+use Rattle.refinement.specs.Ends.{wiped, SameLengths}
 use Rattle.call.specs.declared.Answer.{Answer}
 use Rattle.call.specs.declared.list.ListAnswer.{ListAnswer}
 use Rattle.call.specs.Checked.{Refused}
@@ -39,23 +39,6 @@ front_laid [] b h = none_taken b
     none_taken (x ∷ b) = refl
 front_laid (x ∷ l) [] h = absurd (omega (arith, h))
 front_laid (x ∷ l) (y ∷ b) h = ap (x ∷◌) (front_laid l b (omega (arith, h)))
-
--- the events' buffer beside the others
-abbrev with_events : List ℕ → ListResult → ListResult
-with_events e x =
-    record {
-      answer = x.answer;
-      list_count = x.list_count;
-      list = x.list;
-      buffers = record { events = e; trees = x.buffers.trees; errors = x.buffers.errors; reports = x.buffers.reports; pool = x.buffers.pool };
-    }
-
--- what a parse was lent, and what it left; both as long
-pub record SameLengths (b c : Buffers) : Type 0 where
-  pub trees : length c.trees ≡ length b.trees
-  pub errors : length c.errors ≡ length b.errors
-  pub reports : length c.reports ≡ length b.reports
-  pub pool : length c.pool ≡ length b.pool
 
 module _ (q : Query) (setting : ℕ) (bytes tokens : List ℕ) (b : Buffers) (list : List ℕ) (ok : check_input bytes tokens ≡ accepted)
     (a : Answer) (c : Buffers) (parsed : result_of a c ≡ parse SourceFile setting bytes (tokens_of tokens) b) where
@@ -115,8 +98,8 @@ module _ (q : Query) (setting : ℕ) (bytes tokens : List ℕ) (b : Buffers) (li
     events_zero = ap (λ (r : Result). r.buffers.events) left.returns
 
     by_room : (s : SameLengths b c) (t : Bool) → leb (length lists) (length list) ≡ t
-        → with_events c.events (cond t (list_result_of (counted a (length lists)) (wiped (length lists) (laid lists list)) (buffers_of [] c.trees c.errors c.reports c.pool))
-        (list_result_of (counted (refused_with NO_TREE_ROOM 0) 0) (wiped 0 (laid lists list)) (buffers_of [] (wiped 0 c.trees) (wiped 0 c.errors) (wiped 0 c.reports) (wiped 0 c.pool))))
+        → cond t (list_result_of (counted a (length lists)) (wiped (length lists) (laid lists list)) c)
+        (list_result_of (counted (refused_with NO_TREE_ROOM 0) 0) (wiped 0 (laid lists list)) (buffers_of c.events (wiped 0 c.trees) (wiped 0 c.errors) (wiped 0 c.reports) (wiped 0 c.pool)))
         ≡ cond t (record { answer = answer_of a; list_count = length lists; list = written lists list; buffers = c }) (listless (cleared no_tree_room b) (zeros list))
     unfolding number_of place_of
     by_room s true e =
@@ -128,18 +111,15 @@ module _ (q : Query) (setting : ℕ) (bytes tokens : List ℕ) (b : Buffers) (li
         (buffers_of (events_zero i) (all_zeros b.trees c.trees s.trees i) (all_zeros b.errors c.errors s.errors i) (all_zeros b.reports c.reports s.reports i) (all_zeros b.pool c.pool s.pool i))
 
     -- accepted: its list is kept, or nothing is
-    pub parse_listed : (s : SameLengths b c) (x : ListAnswer) (list' : List ℕ) (d : Buffers) → d.events ≡ c.events
-        → list_result_of x list' (buffers_of [] d.trees d.errors d.reports d.pool) ≡ list_ends q a (length bytes) list (buffers_of [] c.trees c.errors c.reports c.pool)
-        → list_result_of x list' d ≡ wanted (parse SourceFile setting bytes (tokens_of tokens) b)
+    pub parse_listed : (s : SameLengths b c) (y : ListResult) → y ≡ list_ends q a (length bytes) list c → y ≡ wanted (parse SourceFile setting bytes (tokens_of tokens) b)
     unfolding with_list
-    parse_listed s x list' d ev e =
-        ap (λ (l : List ℕ). list_result_of x list' (buffers_of l d.trees d.errors d.reports d.pool)) ev
-        ∙ ap (with_events c.events) (e ∙ ap (λ (l : List ℕ). ended a (length l) (laid l list) (buffers_of [] c.trees c.errors c.reports c.pool)) found_is)
+    parse_listed s y e =
+        e
+        ∙ ap (λ (l : List ℕ). ended a (length l) (laid l list) c) found_is
         ∙ ap
         (λ (k : ℕ).
-        with_events c.events
-        (cond (leb (length lists) k) (list_result_of (counted a (length lists)) (wiped (length lists) (laid lists list)) (buffers_of [] c.trees c.errors c.reports c.pool))
-        (list_result_of (counted (refused_with NO_TREE_ROOM 0) 0) (wiped 0 (laid lists list)) (buffers_of [] (wiped 0 c.trees) (wiped 0 c.errors) (wiped 0 c.reports) (wiped 0 c.pool)))))
+        cond (leb (length lists) k) (list_result_of (counted a (length lists)) (wiped (length lists) (laid lists list)) c)
+        (list_result_of (counted (refused_with NO_TREE_ROOM 0) 0) (wiped 0 (laid lists list)) (buffers_of c.events (wiped 0 c.trees) (wiped 0 c.errors) (wiped 0 c.reports) (wiped 0 c.pool))))
         (laid_length lists list)
         ∙ by_room s (leb (length lists) (length list)) refl
         ∙ sym
