@@ -33,8 +33,7 @@ pub fn seek(trees: &[u32], index: usize, left: u32) -> Spot
     while width <= rest {
         rest -= trees[i] * width;
         let next = trees[i + TREE_ROW + TREE_WIDTH];
-        let here = rest < next;
-        if here {
+        if rest < next {
             return Spot {
                 index: i + TREE_ROW,
                 left: rest,
@@ -58,19 +57,17 @@ fn chain(byte: u32, trees: &[u32], list: &mut [u32]) -> usize
     ensures list_after { list.new
         ≡ laid (holding 0 byte (tree_rows_of trees.now)) list.old }
 {
-    let mut index: usize = 0;
+    let mut index = 0;
     let mut left = byte;
-    let mut count: usize = 0;
+    let mut count = 0;
     loop {
         let spot = seek(trees, index, left);
-        let here = spot.index;
-        put(list, count, (here / TREE_ROW) as u32);
+        put(list, count, (spot.index / TREE_ROW) as u32);
         count += 1;
-        let leaf = trees[here] == LEAF;
-        if leaf {
+        if trees[spot.index] == LEAF {
             return count;
         }
-        index = here + TREE_ROW;
+        index = spot.index + TREE_ROW;
         left = spot.left;
     }
 }
@@ -83,18 +80,14 @@ pub fn rows_at(offset: u64, size: usize, trees: &[u32], list: &mut [u32]) -> usi
         ≡ laid (found (caret offset) size (tree_rows_of trees.now)) list.old }
 {
     let length = size as u64;
-    let inside = offset < length;
-    if inside {
-        return chain(offset as u32, trees, list);
-    }
-    let past = offset != length;
-    if past {
-        return 0;
-    }
-    let empty = size == 0;
-    if empty {
+    if offset < length {
+        chain(offset as u32, trees, list)
+    } else if offset != length {
+        0
+    } else if size == 0 {
         put(list, 0, 0);
-        return 1;
+        1
+    } else {
+        chain((size - 1) as u32, trees, list)
     }
-    chain((size - 1) as u32, trees, list)
 }

@@ -1,7 +1,6 @@
 -- `seek`: two rows in a turn; what is found from here is what is found from the start.
 use native.Mathlib.Omega.{arith}
 use mathlib.Core.Path.{refl}
-use borrow.Author.Tests.{ltb-true, ltb-false}
 use Rattle.caret.proofs.Turns.{there, row_there, found_here, first_less, second_there, found_second, second_less, third_there, both_past}
 use Rattle.caret.proofs.chain.seek.Goals as goal
 
@@ -52,8 +51,8 @@ bounds-trees-i-in-loop-width-2 c = omega (arith, second_there c.loop-width.invar
 pub overflow_add-result : goal.overflow_add-result
 overflow_add-result c = omega (arith, second_there c.loop-width.invariant c.loop-width-test.true)
 
-pub returns-then-here : goal.returns-then-here
-returns-then-here c = found_second c.loop-width.invariant c.loop-width-test.true (ltb-true _ _ c.if-here.true-raw)
+pub returns-then-rest-next : goal.returns-then-rest-next
+returns-then-rest-next c = found_second c.loop-width.invariant c.loop-width-test.true c.if-rest-next.true
 
 pub overflow_add-rest : goal.overflow_add-rest
 overflow_add-rest c = omega (arith, second_there c.loop-width.invariant c.loop-width-test.true)
@@ -65,28 +64,28 @@ pub bounds-trees-i-in-loop-width-3 : goal.bounds-trees-i-in-loop-width-3
 bounds-trees-i-in-loop-width-3 c = omega (arith, second_there c.loop-width.invariant c.loop-width-test.true)
 
 pub overflow_mul-rest-in-loop-width : goal.overflow_mul-rest-in-loop-width
-overflow_mul-rest-in-loop-width c = omega (arith, second_less c.loop-width.invariant c.loop-width-test.true (ltb-false _ _ c.if-here.false-raw), c.loop-width.invariant.fewer)
+overflow_mul-rest-in-loop-width c = omega (arith, second_less c.loop-width.invariant c.loop-width-test.true c.if-rest-next.false, c.loop-width.invariant.fewer)
 
 pub overflow_sub-rest-in-loop-width : goal.overflow_sub-rest-in-loop-width
-overflow_sub-rest-in-loop-width c = second_less c.loop-width.invariant c.loop-width-test.true (ltb-false _ _ c.if-here.false-raw)
+overflow_sub-rest-in-loop-width c = second_less c.loop-width.invariant c.loop-width-test.true c.if-rest-next.false
 
 pub overflow_add-i : goal.overflow_add-i
-overflow_add-i c = omega (arith, third_there c.loop-width.invariant c.loop-width-test.true (ltb-false _ _ c.if-here.false-raw))
+overflow_add-i c = omega (arith, third_there c.loop-width.invariant c.loop-width-test.true c.if-rest-next.false)
 
 pub overflow_add-width-in-loop-width : goal.overflow_add-width-in-loop-width
-overflow_add-width-in-loop-width c = omega (arith, third_there c.loop-width.invariant c.loop-width-test.true (ltb-false _ _ c.if-here.false-raw))
+overflow_add-width-in-loop-width c = omega (arith, third_there c.loop-width.invariant c.loop-width-test.true c.if-rest-next.false)
 
 pub offset_bounds-trees-i-in-loop-width-4 : goal.offset_bounds-trees-i-in-loop-width-4
-offset_bounds-trees-i-in-loop-width-4 c = omega (arith, third_there c.loop-width.invariant c.loop-width-test.true (ltb-false _ _ c.if-here.false-raw))
+offset_bounds-trees-i-in-loop-width-4 c = omega (arith, third_there c.loop-width.invariant c.loop-width-test.true c.if-rest-next.false)
 
 pub bounds-trees-i-in-loop-width-4 : goal.bounds-trees-i-in-loop-width-4
-bounds-trees-i-in-loop-width-4 c = omega (arith, third_there c.loop-width.invariant c.loop-width-test.true (ltb-false _ _ c.if-here.false-raw))
+bounds-trees-i-in-loop-width-4 c = omega (arith, third_there c.loop-width.invariant c.loop-width-test.true c.if-rest-next.false)
 
 pub loop-width-smaller : goal.loop-width-smaller
-loop-width-smaller c = omega (arith, third_there c.loop-width.invariant c.loop-width-test.true (ltb-false _ _ c.if-here.false-raw))
+loop-width-smaller c = omega (arith, third_there c.loop-width.invariant c.loop-width-test.true c.if-rest-next.false)
 
 pub loop-width-preserved : goal.loop-width-preserved
-loop-width-preserved c = both_past c.loop-width.invariant c.loop-width-test.true (ltb-false _ _ c.if-here.false-raw) _ (omega arith)
+loop-width-preserved c = both_past c.loop-width.invariant c.loop-width-test.true c.if-rest-next.false _ (omega arith)
 
 pub returns : goal.returns
 returns c = found_here c.loop-width.invariant (omega (arith, c.loop-width-test.false))
