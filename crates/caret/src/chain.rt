@@ -1,7 +1,7 @@
 // The chain of rows from the root to the leaf that owns a byte. In preorder a row starts where the leaves before it
 // end, so the rows that have the byte are found by passing over all others.
-ghost use Rattle.std.specs.Prelude.{◌≡◌, ◌<◌, length, drop};
-ghost use Rattle.definitions.specs.Layout.{TWO_TO_32};
+ghost use Rattle.std.specs.Prelude.{◌≡◌, ◌+◌, ◌<◌, ◌≤◌, length, drop};
+ghost use Rattle.definitions.specs.Layout.{TREE_ROW, TWO_TO_32};
 ghost use Rattle.definitions.specs.Caret.{caret};
 ghost use Rattle.rows.specs.ResultRows.{raw_bytes};
 ghost use Rattle.rows.specs.OnePass.{tree_rows_of, holding, found, Classes, Sound};
@@ -25,7 +25,9 @@ const PAIR: usize = 2 * TREE_ROW;
 pub fn seek(trees: &[u32], index: usize, left: u32) -> Spot
     requires { (left < raw_bytes (tree_rows_of (drop index trees.now)))
         × Classes (tree_rows_of (drop index trees.now)) }
-    ensures { result ≡ seek_from index left (tree_rows_of (drop index trees.now)) }
+    ensures value { result ≡ seek_from index left (tree_rows_of (drop index trees.now)) }
+    ensures inside { result.index + TREE_ROW ≤ length trees.now }
+    ensures onward { index ≤ result.index }
 {
     let mut i = index;
     let mut rest = left;

@@ -16,64 +16,24 @@ overflow_cast-spot c =
     let a = c.args in
     let l = c.loop-spot in
     let k = c.seek-spot in
-    let f = at_hand l.invariant k.result k.ensures in
+    let f = at_hand l.invariant k.result k.ensures.value in
     omega (arith, f.at, f.few, c.requires.2)
-
-pub overflow_add-count : goal.overflow_add-count
-overflow_add-count c =
-    let a = c.args in
-    let l = c.loop-spot in
-    let k = c.seek-spot in
-    let f = at_hand l.invariant k.result k.ensures in
-    omega (arith, l.invariant.few, l.invariant.at, f.at, f.later, f.numbers_there)
-
-pub offset_bounds-trees-spot : goal.offset_bounds-trees-spot
-offset_bounds-trees-spot c =
-    let a = c.args in
-    let l = c.loop-spot in
-    let k = c.seek-spot in
-    let f = at_hand l.invariant k.result k.ensures in
-    omega (arith, f.numbers_there)
-
-pub bounds-trees-spot : goal.bounds-trees-spot
-bounds-trees-spot c =
-    let a = c.args in
-    let l = c.loop-spot in
-    let k = c.seek-spot in
-    let f = at_hand l.invariant k.result k.ensures in
-    omega (arith, f.numbers_there)
 
 pub returns-then-trees-spot-eq-LEAF : goal.returns-then-trees-spot-eq-LEAF
 returns-then-trees-spot-eq-LEAF c =
     let a = c.args in
     let l = c.loop-spot in
     let k = c.seek-spot in
-    let f = at_hand l.invariant k.result k.ensures in
+    let f = at_hand l.invariant k.result k.ensures.value in
     let p = c.put in
-    let all = ends_at l.invariant k.result k.ensures p.new.list p.ensures c.if-trees-spot-eq-LEAF.true in
+    let all = ends_at l.invariant k.result k.ensures.value p.new.list p.ensures c.if-trees-spot-eq-LEAF.true in
     record { value = all.0; list_after = all.1 }
-
-pub overflow_add-index : goal.overflow_add-index
-overflow_add-index c =
-    let a = c.args in
-    let l = c.loop-spot in
-    let k = c.seek-spot in
-    let f = at_hand l.invariant k.result k.ensures in
-    omega (arith, f.numbers_there)
-
-pub loop-spot-smaller : goal.loop-spot-smaller
-loop-spot-smaller c =
-    let a = c.args in
-    let l = c.loop-spot in
-    let k = c.seek-spot in
-    let f = at_hand l.invariant k.result k.ensures in
-    omega (arith, f.later, f.numbers_there)
 
 pub loop-spot-preserved : goal.loop-spot-preserved
 loop-spot-preserved c =
     let a = c.args in
     let l = c.loop-spot in
     let k = c.seek-spot in
-    let f = at_hand l.invariant k.result k.ensures in
+    let f = at_hand l.invariant k.result k.ensures.value in
     let p = c.put in
-    on_from l.invariant k.result k.ensures p.new.list p.ensures c.if-trees-spot-eq-LEAF.false
+    on_from l.invariant k.result k.ensures.value p.new.list p.ensures c.if-trees-spot-eq-LEAF.false

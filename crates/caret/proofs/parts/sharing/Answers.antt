@@ -24,21 +24,21 @@ overflow_sub-from c =
     let s = c in
     let a = s.args in
     let h = c.if-from-size.true in
-    left_less a.from a.to a.size a.trees.now s.requires h c.seek-spot.result c.seek-spot.ensures
+    left_less a.from a.to a.size a.trees.now s.requires h c.seek-spot.result c.seek-spot.ensures.value
 
 pub sharing_from-requires : goal.sharing_from-requires
 sharing_from-requires c =
     let s = c in
     let a = s.args in
     let h = c.if-from-size.true in
-    (starts_there a.from a.to a.size a.trees.now s.requires h c.seek-spot.result c.seek-spot.ensures, s.requires.few)
+    (starts_there a.from a.to a.size a.trees.now s.requires h c.seek-spot.result c.seek-spot.ensures.value, s.requires.few)
 
 pub returns-then-from-size : goal.returns-then-from-size
 returns-then-from-size c =
     let s = c in
     let a = s.args in
     let h = c.if-from-size.true in
-    let all = as_found _ a.list.now _ (all_there a.from a.to a.size a.trees.now s.requires h c.seek-spot.result c.seek-spot.ensures) (c.sharing_from.ensures.value, c.sharing_from.ensures.list_after) in
+    let all = as_found _ a.list.now _ (all_there a.from a.to a.size a.trees.now s.requires h c.seek-spot.result c.seek-spot.ensures.value) (c.sharing_from.ensures.value, c.sharing_from.ensures.list_after) in
     record { value = all.0; list_after = all.1 }
 
 pub returns-else-from-size : goal.returns-else-from-size
