@@ -10,7 +10,7 @@ ghost use Rattle.caret.specs.Walk.{laid, seek_from};
 use crate::list::put;
 use layout::row::{LEAF, TREE_ROW, TREE_WIDTH};
 
-// A row that has the byte: the index of its first number, and how far after the row's start the byte is.
+// A row, by the index of its first number, and how far after the row's start the byte is.
 #[derive(Clone, Copy)]
 pub struct Spot {
     pub index: usize,
@@ -20,17 +20,17 @@ pub struct Spot {
 // The numbers of two rows: the walk takes two in a turn, which saves half an instruction of six for each row.
 const PAIR: usize = 2 * TREE_ROW;
 
-// The first row from an index on that has the byte `left` bytes after the start of the row there. There is one, so no
-// end of the rows is looked for. A row's class is 0 for a node and 1 for a leaf, which alone moves the start.
-pub fn seek(trees: &[u32], index: usize, left: u32) -> Spot
-    requires { (left < raw_bytes (tree_rows_of (drop index trees.now)))
-        × Classes (tree_rows_of (drop index trees.now)) }
-    ensures value { result ≡ seek_from index left (tree_rows_of (drop index trees.now)) }
+// The first row from one on that has the byte `left` bytes after the start of that one. There is one, so no end of the
+// rows is looked for. A row's class is 0 for a node and 1 for a leaf, which alone moves the start.
+pub fn seek(trees: &[u32], from: Spot) -> Spot
+    requires { (from.left < raw_bytes (tree_rows_of (drop from.index trees.now)))
+        × Classes (tree_rows_of (drop from.index trees.now)) }
+    ensures value { result ≡ seek_from from.index from.left (tree_rows_of (drop from.index trees.now)) }
     ensures inside { result.index + TREE_ROW ≤ length trees.now }
-    ensures onward { index ≤ result.index }
+    ensures onward { from.index ≤ result.index }
 {
-    let mut i = index;
-    let mut rest = left;
+    let mut i = from.index;
+    let mut rest = from.left;
     let mut width = trees[i + TREE_WIDTH];
     while width <= rest {
         rest -= trees[i] * width;
@@ -59,18 +59,19 @@ fn chain(byte: u32, trees: &[u32], list: &mut [u32]) -> usize
     ensures list_after { list.new
         ≡ laid (holding 0 byte (tree_rows_of trees.now)) list.old }
 {
-    let mut index = 0;
-    let mut left = byte;
+    let mut spot = Spot {
+        index: 0,
+        left: byte,
+    };
     let mut count = 0;
     loop {
-        let spot = seek(trees, index, left);
+        spot = seek(trees, spot);
         put(list, count, (spot.index / TREE_ROW) as u32);
         count += 1;
         if trees[spot.index] == LEAF {
             return count;
         }
-        index = spot.index + TREE_ROW;
-        left = spot.left;
+        spot.index += TREE_ROW;
     }
 }
 

@@ -6,7 +6,7 @@ ghost use Rattle.definitions.specs.Caret.{range, share};
 ghost use Rattle.rows.specs.OnePass.{tree_rows_of, starting, found, Classes, AddsUp, Sound};
 ghost use Rattle.caret.specs.Walk.{laid, passed, Starts};
 
-use crate::chain::seek;
+use crate::chain::{Spot, seek};
 use crate::list::put;
 use layout::row::{TREE_ROW, TREE_WIDTH};
 
@@ -71,7 +71,11 @@ pub fn sharing(from: u64, to: u64, size: usize, trees: &[u32], list: &mut [u32])
         ≡ laid (found (range from to) size (tree_rows_of trees.now)) list.old }
 {
     if from < size as u64 {
-        let spot = seek(trees, TREE_ROW, from as u32);
+        let top = Spot {
+            index: TREE_ROW,
+            left: from as u32,
+        };
+        let spot = seek(trees, top);
         sharing_from(from, to, spot.index, from - spot.left as u64, trees, list)
     } else {
         0

@@ -5,13 +5,13 @@ use Rattle.caret.proofs.Turns.{there, turning, found_here, found_second, both_pa
 use Rattle.caret.proofs.chain.seek.Goals as goal
 
 pub overflow_add-width : goal.overflow_add-width
-overflow_add-width c = omega (arith, there c.args.trees.now c.args.index c.args.left (record { bytes = c.requires.0; classes = c.requires.1 }))
+overflow_add-width c = omega (arith, there c.args.trees.now c.args.from.index c.args.from.left (record { bytes = c.requires.0; classes = c.requires.1 }))
 
 pub offset_bounds-trees-i : goal.offset_bounds-trees-i
-offset_bounds-trees-i c = omega (arith, there c.args.trees.now c.args.index c.args.left (record { bytes = c.requires.0; classes = c.requires.1 }))
+offset_bounds-trees-i c = omega (arith, there c.args.trees.now c.args.from.index c.args.from.left (record { bytes = c.requires.0; classes = c.requires.1 }))
 
 pub bounds-trees-i : goal.bounds-trees-i
-bounds-trees-i c = omega (arith, there c.args.trees.now c.args.index c.args.left (record { bytes = c.requires.0; classes = c.requires.1 }))
+bounds-trees-i c = omega (arith, there c.args.trees.now c.args.from.index c.args.from.left (record { bytes = c.requires.0; classes = c.requires.1 }))
 
 pub loop-width-init : goal.loop-width-init
 loop-width-init c = turning (record { same = refl; going = record { bytes = c.requires.0; classes = c.requires.1 }; read = refl; fewer = omega arith }) (omega arith)

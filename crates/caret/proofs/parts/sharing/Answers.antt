@@ -5,8 +5,8 @@ use Rattle.caret.proofs.Skips.{none_in_range, seek_there, left_less, starts_ther
 use Rattle.caret.proofs.Offsets.{as_found, laid_none}
 use Rattle.caret.proofs.parts.sharing.Goals as goal
 
-pub overflow_cast-from : goal.overflow_cast-from
-overflow_cast-from c =
+pub overflow_cast-top : goal.overflow_cast-top
+overflow_cast-top c =
     let s = c in
     let a = s.args in
     let h = c.if-from-size.true in
