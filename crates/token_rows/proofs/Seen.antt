@@ -1,15 +1,26 @@
 -- Laws of the first of some tokens, as the code reads it.
-use Rattle.std.proofs.Common.{◌≡◌, ℕ, ◌+◌, ◌*◌, ◌/◌, ◌≤◌, ◌<◌, Bool, true, false, cond, Option, None, Some, MatchOption, is_some, List, [], ◌∷◌, ◌||◌, eqb, length, drop, get_or, refl, sym, ◌∙◌, ap, arith}
+use Rattle.std.proofs.Common.{◌≡◌, ℕ, ◌+◌, ◌*◌, ◌/◌, ◌≤◌, ◌<◌, Bool, true, false, cond, Option, None, Some, MatchOption, is_some, List, [], ◌∷◌, ◌||◌, eqb, leb, length, drop, get_or, refl, sym, ◌∙◌, ap, arith}
+use Rattle.std.proofs.lemmas.Bool.Decides.{nat_tests}
 use Rattle.std.specs.List.{list_any}
 use Rattle.basics.specs.Word.{low}
 use Rattle.basics.proofs.TokenRows.{token_at, tokens_cons, tokens_end}
 use Rattle.definitions.specs.Layout.{TOKEN_ROW, TOKEN_LENGTH}
-use Rattle.definitions.specs.Token.{Token, tokens_of, seen, is_trivia, trivia, past, one_of, first_in}
+use Rattle.definitions.specs.LexError as L
+use Rattle.definitions.specs.TokenKind as K
+use Rattle.definitions.specs.Token.{Token, tokens_of, is_error, seen, is_trivia, trivia, past, one_of, first_in}
 use Rattle.machine.specs.Machine.{Machine, with_cursor, skip, range_at}
 use Rattle.layout.specs.Rows.{IsRow}
 use Rattle.token_rows.specs.Tokens.{SEEN_AT_END, kind_of, token_of}
 use Rattle.token_rows.specs.declared.token.Token.{Token as Row}
 
+pub seen_is : (t : Token) → seen t ≡ cond (leb L.UnexpectedEndIncbin t.kind) K.Unrecognized t.kind
+unfolding seen is_error
+seen_is t = refl
+
+-- how an error token is told from the others
+pub ruleset seen_tests = (nat_tests, seen_is)
+
+-- l begins with the row, or is empty where there is none
 abbrev pub Reads : Option Row → List Token → List Token → Type 0
 Reads r l rest = MatchOption r (l ≡ []) (λ t. l ≡ token_of t ∷ rest)
 

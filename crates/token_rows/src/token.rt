@@ -29,7 +29,7 @@ struct Token {
 
 impl Token {
     // Its kind as a test sees it: an error token is Unrecognized.
-    #[tactic(auto, using(std::proofs::lemmas::Bool::Decides::nat_tests), unfolding(definitions::specs::Token::seen, definitions::specs::Token::is_error))]
+    #[tactic(auto, using(crate::proofs::Seen::seen_tests))]
     fn seen(self) -> u8
         ensures { result ≡ seen (token_of self) }
     {
