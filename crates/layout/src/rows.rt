@@ -22,8 +22,10 @@ pub fn rows_fit<const N: usize>(len: usize, rows: u32) -> bool
 pub fn put_row<const N: usize>(buffer: &mut [u32], index: usize, row: [u32; N])
     ensures { buffer.new ≡ put_row N index row.entry buffer.old }
 {
-    if index <= buffer.len() && N <= buffer.len() - index {
-        buffer[index..index + N].copy_from_slice(&row);
+    if let Some(end) = index.checked_add(N)
+        && end <= buffer.len()
+    {
+        buffer[index..end].copy_from_slice(&row);
     }
 }
 
