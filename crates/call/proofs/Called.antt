@@ -6,7 +6,7 @@ use mathlib.Core.List.{List}
 use mathlib.Core.Bool.{Bool, true, false, cond}
 use lib.Dec.{eqb}
 use lib.ListN.{length}
-use Rattle.std.specs.Prelude.{IfOk}
+use Rattle.std.specs.Prelude.{IfOk, Ok, Err}
 use borrow.Author.Tests.{eqb-true, eqb-false}
 use Rattle.definitions.specs.Token.{tokens_of}
 use Rattle.definitions.specs.Refusal.{Verdict, accepted, number_of, place_of}
@@ -14,8 +14,7 @@ use Rattle.definitions.specs.RowCauses.{check_input}
 use Rattle.definitions.specs.Grammar.{Entry, root_kind}
 use Rattle.definitions.specs.Call.{Buffers, Result, parse, Asked, for, entry_of, checked, asked, call}
 use Rattle.machine.specs.Machine.{Machine}
-use Rattle.sink.specs.declared.Sunk.{Sunk}
-use Rattle.sink.specs.declared.Sunk.TheVariants.{Written, NoRoom}
+use Rattle.sink.specs.Sunk.{Sunk}
 use Rattle.labels.specs.declared.report.Names.{Names}
 use Rattle.refinement.specs.Ends.{swept, refused_at, sunk_answer, last_answer, after_all, SameLengths, Parsed, CallEnds}
 use Rattle.refinement.proofs.Ends.{calls_end}
@@ -27,8 +26,8 @@ use Rattle.call.specs.Ended.{refused_with, sunk_with, named_with, run_of, Answer
 
 same_sunk : (s : Sunk) (r p : ℕ) → answer_of (sunk_with s r p) ≡ sunk_answer s r p
 unfolding number_of place_of
-same_sunk (Written t f) r p = refl
-same_sunk NoRoom r p = refl
+same_sunk (Ok w) r p = refl
+same_sunk (Err e) r p = refl
 
 same_answer : (s : Sunk) (w : Names) (m : Machine) → answer_of (named_with s w m.pool.count) ≡ last_answer s w m
 same_answer s w m = go (eqb w.refusal 0)

@@ -5,8 +5,7 @@ use Rattle.definitions.specs.Layout.{TREE_ROW, ERROR_ROW, REPORT_ROW, NO_TREE_RO
 use Rattle.definitions.specs.Call.{Buffers}
 use Rattle.definitions.specs.Call as Call
 use Rattle.machine.specs.Machine.{Machine}
-use Rattle.sink.specs.declared.Sunk.{Sunk}
-use Rattle.sink.specs.declared.Sunk.TheVariants.{Written, NoRoom}
+use Rattle.sink.specs.Sunk.{Sunk}
 use Rattle.sink.specs.Promise as Sink
 use Rattle.labels.specs.declared.report.Names.{Names}
 use Rattle.labels.specs.Promise as Labels
@@ -26,8 +25,8 @@ accepted_with t e r n = record { number = 0; place = 0; tree_count = t; error_co
 
 -- by what the sink says, with so many numbers of reports and so many expectations
 abbrev pub sunk_with : Sunk → ℕ → ℕ → Answer
-sunk_with (Written t e) r n = accepted_with t e (r / REPORT_ROW) n
-sunk_with NoRoom r n = refused_with NO_TREE_ROOM 0
+sunk_with (Ok w) r n = accepted_with w.rows w.errors (r / REPORT_ROW) n
+sunk_with (Err e) r n = refused_with NO_TREE_ROOM 0
 
 -- and by what the reports of the setting's Names come to: 7 comes before 8
 abbrev pub named_with : Sunk → Names → ℕ → Answer

@@ -10,7 +10,7 @@ use labels::judge::report_names;
 use layout::refusal::NO_TREE_ROOM;
 use layout::row::{ERROR_ROW, REPORT_ROW, TREE_ROW};
 use layout::word::low32;
-use sink::Sunk;
+use sink::{NoRoom, Written};
 
 // How far a run filled these buffers, in numbers.
 #[derive(Clone, Copy)]
@@ -28,18 +28,22 @@ pub struct Refusal {
 }
 
 // By what the sink says, with so many numbers of reports and so many expectations.
-fn answer_of_sink(sunk: Sunk, reports_written: usize, pool_written: usize) -> Answer
+fn answer_of_sink(
+    sunk: Result<Written, NoRoom>,
+    reports_written: usize,
+    pool_written: usize,
+) -> Answer
     ensures value { result ≡ sunk_with sunk reports_written pool_written }
     ensures counts_fit { CountsFit result }
 {
     match sunk {
-        Sunk::Written(rows, found) => accepted(
+        Ok(Written { rows, errors }) => accepted(
             rows,
-            found,
+            errors,
             reports_written / REPORT_ROW,
             pool_written,
         ),
-        Sunk::NoRoom => refused(NO_TREE_ROOM, 0),
+        Err(NoRoom) => refused(NO_TREE_ROOM, 0),
     }
 }
 
