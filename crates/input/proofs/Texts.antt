@@ -6,11 +6,12 @@ use mathlib.Core.List.{List, [], ◌∷◌}
 use native.Mathlib.Omega.{arith}
 use lib.Dec.{leb, eqb}
 use lib.ListN.{length, get_or, take, drop, length-drop}
-use borrow.Author.Tests.{leb-true, eqb-true, eqb-false, ne_eqb}
+use borrow.Author.Tests.{leb-true, ne_eqb}
 use Rattle.basics.proofs.Tests.{and_left, and_right}
 use Rattle.basics.proofs.Below.{all_below, at_below}
 use Rattle.definitions.specs.TokenKind as K
 use Rattle.definitions.specs.StaticText.{Text, static_texts, same, fits_text}
+use Rattle.std.specs.Bool.{Decides}
 use Rattle.basics.proofs.Texts.{same_true, same_refl}
 
 abbrev pub texts : List ℕ
@@ -106,12 +107,6 @@ rule k h =
 
 -- ---------------------------------------------------------------- as the function holds it
 
--- s, e: where the kind's bytes start and end in TEXTS
-pub spelled_free : (k s e : ℕ) (bytes : List ℕ) → k ≤ K.QuestionMark → s ≡ get_or starts k 0 → e ≡ get_or starts (k + 1) 0 → eqb s e ≡ true → true ≡ fits_text static_texts k bytes
-spelled_free k s e bytes h f g q =
-    let z : get_or starts (k + 1) 0 - get_or starts k 0 ≡ 0 = omega (arith, f, g, eqb-true s e q) in
-    sym ((rule k h).says bytes ∙ ap (λ (n : ℕ). free_or_same (take n (drop (get_or starts k 0) texts)) bytes) z)
-
 some : (n : ℕ) (l bytes : List ℕ) → 0 < n → 0 < length l → free_or_same (take n l) bytes ≡ same (take n l) bytes
 some zero l bytes a b = absurd (omega (arith, a))
 some (suc n) [] bytes a b = absurd (omega (arith, b))
@@ -127,13 +122,16 @@ tested r a b f g = go r refl (same a b) refl
     go true p false q = absurd (true≢false (sym (same_refl b) ∙ ap (λ (l : List ℕ). same l b) (sym (f p)) ∙ q))
     go false p true q = absurd (true≢false (sym (g (same_true a b q)) ∙ p))
 
-pub spelled_same : (k s e : ℕ) (bytes : List ℕ) (r : Bool) → k ≤ K.QuestionMark → s ≡ get_or starts k 0 → e ≡ get_or starts (k + 1) 0 → eqb s e ≡ false
-    → (r ≡ true → take (e - s) (drop s texts) ≡ bytes) × (take (e - s) (drop s texts) ≡ bytes → r ≡ true) → r ≡ fits_text static_texts k bytes
-spelled_same k s e bytes r h f g q t =
-    let u = rule k h in
-    let a : 0 < e - s = omega (arith, f, g, u.ordered, eqb-false s e q) in
-    let b : 0 < length (drop s texts) = subst⁻¹ (λ (n : ℕ). 0 < n) (length-drop s texts) (omega (arith, f, g, u.ordered, u.inside, eqb-false s e q)) in
-    let v : free_or_same (slice k) bytes ≡ same (take (e - s) (drop s texts)) bytes =
-    ap (λ (n : ℕ). free_or_same (take (get_or starts (k + 1) 0 - n) (drop n texts)) bytes) (sym f)
-    ∙ ap (λ (n : ℕ). free_or_same (take (n - s) (drop s texts)) bytes) (sym g) ∙ some (e - s) (drop s texts) bytes a b in
-    tested r (take (e - s) (drop s texts)) bytes t.0 t.1 ∙ sym v ∙ sym (u.says bytes)
+module _ (k : ℕ) (bytes : List ℕ) (h : k ≤ K.QuestionMark) where
+  pub spelled_free : get_or starts k 0 ≡ get_or starts (k + 1) 0 → true ≡ fits_text static_texts k bytes
+  spelled_free q =
+      let z : get_or starts (k + 1) 0 - get_or starts k 0 ≡ 0 = omega (arith, q) in
+      sym ((rule k h).says bytes ∙ ap (λ (n : ℕ). free_or_same (take n (drop (get_or starts k 0) texts)) bytes) z)
+
+  -- r: whether the kind's bytes are these
+  pub spelled_same : (r : Bool) → (get_or starts k 0 ≡ get_or starts (k + 1) 0 → ⊥) → Decides r (slice k ≡ bytes) → r ≡ fits_text static_texts k bytes
+  spelled_same r q t =
+      let u = rule k h in
+      let a : 0 < get_or starts (k + 1) 0 - get_or starts k 0 = omega (arith, u.ordered, q) in
+      let b : 0 < length (drop (get_or starts k 0) texts) = subst⁻¹ (λ (n : ℕ). 0 < n) (length-drop (get_or starts k 0) texts) (omega (arith, u.ordered, u.inside, q)) in
+      tested r (slice k) bytes t.0 t.1 ∙ sym (some _ (drop (get_or starts k 0) texts) bytes a b) ∙ sym (u.says bytes)

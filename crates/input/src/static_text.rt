@@ -16,31 +16,15 @@ pub const TEXT_STARTS: [u8; 62] = [
     108, 109, 111, 113, 115, 117, 118, 120, 122, 124, 126, 127,
 ];
 
-// A number of TEXT_STARTS as an index of TEXTS.
-fn text_index(start: u8) -> usize
-    ensures { result ≡ start }
-{
-    start as usize
-}
-
 // Whether a token of this kind may have these bytes.
 pub fn is_spelled(kind: u32, text: &[u8]) -> bool
     ensures { result ≡ fits_text static_texts kind text.now }
 {
-    let known = kind <= row_kind::QUESTION_MARK;
-    if known {
-        let k = kind as usize;
-        let starts = TEXT_STARTS;
-        let start = text_index(starts[k]);
-        let end = text_index(starts[k + 1]);
-        let free = start == end;
-        if free {
-            true
-        } else {
-            let texts = TEXTS;
-            check::same(&texts[start..end], text)
-        }
-    } else {
-        true
+    if row_kind::QUESTION_MARK < kind {
+        return true;
     }
+    let k = kind as usize;
+    let start = TEXT_STARTS[k] as usize;
+    let end = TEXT_STARTS[k + 1] as usize;
+    start == end || &TEXTS[start..end] == text
 }
