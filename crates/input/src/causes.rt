@@ -1,5 +1,5 @@
 // The checks of a call's input: causes 2, 3, 11 to 13 and 4, in that order, 11 to 13 over all rows before 4.
-ghost use Rattle.std.specs.Prelude.{◌≡◌, ℕ, ◌+◌, length, map, IfOk};
+ghost use Rattle.std.specs.Prelude.{◌≡◌, ℕ, ◌+◌, ◌<◌, length, map, IfOk};
 ghost use Rattle.definitions.specs.Refusal.{accepted, check_texts, number_of, place_of};
 ghost use Rattle.definitions.specs.RowCauses.{is_kind, check_row, check_rows, check_input};
 ghost use Rattle.input.specs.Checks.{cause_of, verdict_of, token_of};
@@ -33,7 +33,8 @@ impl Unsound {
     // The cause's number.
     #[tactic(auto, unfolding(definitions::specs::Refusal::number_of))]
     pub fn number(self) -> u32
-        ensures { result ≡ number_of (cause_of self) }
+        ensures value { result ≡ number_of (cause_of self) }
+        ensures nonzero { 0 < result }
     {
         match self {
             Self::TooLong => refusal::TOO_LONG,
