@@ -1,6 +1,7 @@
 -- The answers of the checks, in the terms of `definitions`.
-use Rattle.std.specs.Prelude.{ℕ, List, get_or, Result, Ok, Err}
+use Rattle.std.specs.Prelude.{ℕ, cond, Option, None, Some, List, [], ◌∷◌, eqb, get_or, Result, Ok, Err}
 use Rattle.definitions.specs.Layout.{TOKEN_LENGTH}
+use Rattle.definitions.specs.StaticText.{Text}
 use Rattle.definitions.specs.Token.{Token}
 use Rattle.definitions.specs.Refusal.{Refusal, too_long, odd_count, bad_kind, zero_length, past_input, short_total, bad_text, Verdict, accepted, refused}
 use Rattle.input.specs.declared.causes.Unsound.{Unsound}
@@ -24,3 +25,8 @@ verdict_of (Err e) = refused (cause_of e)
 -- a row as a token
 abbrev pub token_of : List ℕ → Token
 token_of r = record { kind = get_or r 0 0; len = get_or r TOKEN_LENGTH 0 }
+
+-- the fixed spelling of a kind in a table, if it has one
+unfoldable pub spelling : List Text → ℕ → Option (List ℕ)
+spelling [] k = None
+spelling (e ∷ es) k = let r = spelling es k in cond (eqb e.kind k) (Some e.text) r
