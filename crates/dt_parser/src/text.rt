@@ -15,7 +15,7 @@ use call::Answer;
 use call::text::{TextAnswer, finish, refused_text};
 use grammar::entry::Entrypoint;
 use layout::refusal;
-use lexer::check::Checked;
+use lexer::check::Cause;
 use lexer::read::read;
 
 // The parse of the rows in the first so many numbers of a buffer.
@@ -64,17 +64,16 @@ fn parse_entry(
     ensures { text_result_of result tokens.new (at_exit events trees errors reports pool)
         ≡ entry_text e setting bytes.now tokens.old (at_entry events trees errors reports pool) }
 {
-    let checked = read(bytes, tokens);
-    match checked {
-        Checked::TooLong => refused_text(refusal::TOO_LONG, 0),
-        Checked::HighByte(at) => refused_text(refusal::HIGH_BYTE, at),
-        Checked::Directive(at) => refused_text(refusal::DIRECTIVE, at),
-        Checked::Sound(numbers) => {
+    match read(bytes, tokens) {
+        Ok(numbers) => {
             let a = parse_front(
                 e, setting, bytes, tokens, numbers, events, trees, errors, reports, pool,
             );
             finish(a, tokens, numbers)
         }
+        Err(Cause::TooLong) => refused_text(refusal::TOO_LONG, 0),
+        Err(Cause::HighByte(at)) => refused_text(refusal::HIGH_BYTE, at),
+        Err(Cause::Directive(at)) => refused_text(refusal::DIRECTIVE, at),
     }
 }
 

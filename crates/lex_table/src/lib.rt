@@ -11,6 +11,8 @@ ghost use Rattle.lex_table.specs.Table.{table as the_table, row_after, kind_of_r
 
 use crate::table::TABLE;
 
+pub const START: usize = 0;
+
 pub const FIRST_SILENT: usize = 5376;
 
 pub const FIRST_FINAL: usize = 24576;
@@ -27,6 +29,7 @@ pub const BYTESTRING: usize = 33536;
 pub const DEAD: usize = 33792;
 
 // The table is built where it is made: make it once for a call, and lend it.
+#[derive(Drop)]
 pub struct Automaton {
     table: [u16; 8090],
     ghost of_the_rules: { table ≡ the_table },
