@@ -1,6 +1,6 @@
 -- The words of directives, and a directive at a byte.
-use Rattle.std.proofs.Common.{◌≡◌, ℕ, ◌+◌, ◌<◌, Bool, List, [], ◌∷◌, length, get_or, drop, refl, add-one, drop-cons}
-use Rattle.std.specs.Prelude.{◌&&◌, ◌||◌, eqb}
+use Rattle.std.proofs.Common.{◌≡◌, ℕ, ◌+◌, ◌<◌, List, [], ◌∷◌, length, get_or, drop, refl, add-one, drop-cons}
+use Rattle.std.specs.Prelude.{◌&&◌, eqb}
 use Rattle.std.specs.List.{list_any, starts_with}
 use Rattle.basics.proofs.Tests.{eqb_swap}
 use Rattle.definitions.specs.Text.{after_blanks, begins_with, begins_with_one, directive_words, is_directive}

@@ -1,5 +1,5 @@
 -- The search for a byte of 128 or more: groups of eight bytes, then one byte further.
-use Rattle.std.proofs.Common.{◌≡◌, ℕ, zero, suc, ◌+◌, ◌*◌, ◌<◌, ◌≤◌, Bool, true, false, List, [], ◌∷◌, length, get_or, take, drop, length-drop, refl, sym, ap, ◌∙◌, arith}
+use Rattle.std.proofs.Common.{◌≡◌, ℕ, zero, suc, ◌+◌, ◌*◌, ◌<◌, ◌≤◌, Bool, true, false, List, [], ◌∷◌, length, take, drop, length-drop, refl, ap, ◌∙◌, arith}
 use Rattle.std.specs.Prelude.{cond, not, ◌||◌, leb, position, option_map, unwrap_or, Option, Some, None, IfSome}
 use Rattle.std.specs.List.{list_any, prefix_len}
 use Rattle.std.specs.Simd.{first_chunks}

@@ -6,7 +6,7 @@ use Rattle.std.proofs.Math.Seq.{take-length}
 use lib.ListN.{drop_of_length-le}
 use Rattle.std.proofs.lemmas.List.Sums.{prefix_len-le-length}
 use borrow.Author.Tests.{ltb-true, ltb-false, lt-ltb, le-ltb}
-use Rattle.definitions.specs.Lex.{End, ended, unexpected_end, one_more, starts_with, comment_end, quote_end, bracket_end}
+use Rattle.definitions.specs.Lex.{End, ended, unexpected_end, one_more, comment_end, quote_end, bracket_end}
 use Rattle.definitions.specs.Text.{after_blanks}
 use Rattle.lexer.specs.Found.{end_of}
 

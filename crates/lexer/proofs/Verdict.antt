@@ -1,17 +1,14 @@
 -- The verdict on a text, put together as the code does: the lower of two offsets, room, all of it.
 use Prim.Native.Nat.{ℕ, ◌<◌, ◌≤◌}
-use native.Mathlib.Omega.{arith}
 use mathlib.Core.Path.{◌≡◌, refl, sym, ◌∙◌, ap}
-use mathlib.Core.Bool.{true, false, ◌&&◌}
 use mathlib.Core.List.{List}
-use lib.Dec.{leb}
 use lib.ListN.{length}
 use borrow.Author.Tests.{le-leb, lt-leb}
 use Rattle.std.specs.Prelude.{Option, Some, None, Result, Ok, Err}
-use Rattle.definitions.specs.Layout.{MOST_BYTES, MOST_TOKEN_NUMBERS}
+use Rattle.definitions.specs.Layout.{MOST_BYTES}
 use Rattle.definitions.specs.Lex.{lex}
-use Rattle.definitions.specs.Text.{found_at, high_byte, TextVerdict, has_high_byte, has_directive, lower, ◌or_then◌, fit, numbers_of, check_text}
-use Rattle.lexer.specs.Found.{offset_of, directive_of, Lexes, verdict_of, FitsRoom, Lower, Checks}
+use Rattle.definitions.specs.Text.{high_byte, TextVerdict, lower, ◌or_then◌, numbers_of, check_text}
+use Rattle.lexer.specs.Found.{offset_of, Lexes, verdict_of, FitsRoom, Lower, Checks}
 use Rattle.lexer.specs.declared.rows.Directive.{Directive}
 use Rattle.lexer.specs.declared.check.Cause.{Cause}
 use Rattle.lexer.specs.declared.check.Cause.TheVariants as C

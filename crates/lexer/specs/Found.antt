@@ -3,7 +3,7 @@ use Rattle.std.specs.Prelude.{ℕ, ◌+◌, ◌*◌, ◌≤◌, ◌<◌, ◌≡�
 use Rattle.definitions.specs.Layout.{MOST_TOKEN_NUMBERS, TOKEN_LENGTH}
 use Rattle.definitions.specs.Token.{Token}
 use Rattle.definitions.specs.Lex.{longest, End, ended, unexpected_end, a_token, next_token, lex}
-use Rattle.definitions.specs.Text.{Offset, nowhere, found_at, high_byte, directive, TextRefusal, too_long, has_high_byte, has_directive, TextVerdict, sound, unsound, lower, fit, numbers_of, check_text}
+use Rattle.definitions.specs.Text.{Offset, nowhere, found_at, directive, TextRefusal, too_long, has_high_byte, has_directive, TextVerdict, sound, unsound, lower, fit, numbers_of, check_text}
 use Rattle.lex_table.specs.Matches.{match_of}
 use Rattle.lexer.specs.declared.rows.Directive.{Directive}
 use Rattle.lexer.specs.declared.check.Cause.{Cause}

@@ -1,5 +1,4 @@
 -- `lower`: by what each search found.
-use Rattle.std.proofs.Common.{◌∙◌}
 use Rattle.std.proofs.lemmas.Result.{err_from_is_err_and}
 use Rattle.lexer.proofs.Verdict.{neither, only_directive, directive_first, only_high, high_first}
 use Rattle.lexer.proofs.check.lower.Goals as goal

@@ -1,5 +1,5 @@
 -- `after_blanks`: the blanks are passed.
-use Rattle.std.proofs.Common.{rules, drop, ◌≡◌}
+use Rattle.std.proofs.Common.{rules, ◌≡◌}
 use Rattle.std.specs.Prelude.{not, position}
 use Rattle.std.proofs.lemmas.Iterator.{YieldsList-from_slice}
 use Rattle.std.proofs.lemmas.Iterator.Search.{position_from_yields_List}

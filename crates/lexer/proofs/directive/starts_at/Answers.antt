@@ -1,5 +1,5 @@
 -- `starts_at`: the hash, blanks, and a word.
-use Rattle.std.proofs.Common.{arith, ◌≡◌, ◌+◌, drop}
+use Rattle.std.proofs.Common.{◌+◌}
 use borrow.Author.Tests.{eq-eqb, ne_eqb}
 use Rattle.lexer.proofs.Search.{tail}
 use Rattle.lexer.proofs.Directives.{directive_at}

@@ -1,5 +1,5 @@
 -- `comment_end`: the first star with a slash behind it.
-use Rattle.std.proofs.Common.{rules, ◌≡◌, ℕ, ◌+◌, ap, ◌∙◌}
+use Rattle.std.proofs.Common.{rules, ◌≡◌, ◌+◌, ap, ◌∙◌}
 use Rattle.std.specs.Prelude.{option_map}
 use Rattle.std.proofs.iter.runs.Made.{chains}
 use Rattle.lexer.specs.Found.{end_of}

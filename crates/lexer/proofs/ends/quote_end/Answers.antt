@@ -1,5 +1,5 @@
 -- `quote_end`: the quote, or one byte further.
-use Rattle.std.proofs.Common.{arith, ◌≡◌, ℕ, Bool, true, false}
+use Rattle.std.proofs.Common.{arith, ◌≡◌, false}
 use borrow.Author.Tests.{eq-eqb, ne_eqb}
 use Rattle.lexer.proofs.Search.{closing, escaping, closed, passed, no_quote}
 use Rattle.lexer.proofs.ends.quote_end.Goals as goal

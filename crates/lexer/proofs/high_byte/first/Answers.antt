@@ -1,10 +1,9 @@
 -- `first`: behind a low front.
-use Rattle.std.proofs.Common.{rules, ◌≡◌, ℕ, ◌+◌, ◌-◌, length, ap, sym, ◌∙◌, take, drop}
-use Rattle.std.specs.Prelude.{Option, option_map, position}
+use Rattle.std.proofs.Common.{rules, ◌≡◌, ◌+◌, ◌-◌, length, take, drop}
+use Rattle.std.specs.Prelude.{option_map, position}
 use Rattle.std.proofs.iter.runs.Made.{chains}
 use Rattle.std.proofs.lemmas.Iterator.{YieldsList-from_slice}
 use Rattle.std.proofs.lemmas.Iterator.Search.{position_from_yields_List}
-use Rattle.lexer.specs.Found.{offset_of}
 use Rattle.lexer.proofs.Search.{tail}
 use Rattle.lexer.proofs.HighBytes.{high, high_found}
 use Rattle.lexer.proofs.high_byte.first.Goals as goal

@@ -1,7 +1,7 @@
 -- `low_front`: groups without such a byte are passed.
-use Rattle.std.proofs.Common.{rules, arith, ◌≡◌, ℕ, ◌<◌, ◌≤◌, ◌*◌, ◌/◌, List, length}
-use Rattle.std.specs.Prelude.{position, not}
-use Rattle.std.specs.List.{list_any, prefix_len}
+use Rattle.std.proofs.Common.{rules, arith, ◌≡◌, ◌/◌, length}
+use Rattle.std.specs.Prelude.{position}
+use Rattle.std.specs.List.{list_any}
 use Rattle.std.specs.Simd.{first_chunks}
 use Rattle.std.proofs.lemmas.Iterator.{YieldsList-from_slice}
 use Rattle.std.proofs.lemmas.Iterator.Search.{position_from_yields_List}

@@ -1,8 +1,6 @@
 -- `longest_by_all`: row, place and best match are those of a scan.
 use Prim.Native.Nat.{◌+◌}
-use mathlib.Core.Path.{◌≡◌}
 use native.Mathlib.Omega.{arith}
-use lib.ListN.{length}
 use Rattle.lex_table.proofs.Turns.{scanned_none, scanned_all, turn_dead, turn_final, turn_match, turn_on}
 use Rattle.lexer.proofs.Hits.{hits}
 use Rattle.lexer.proofs.longest.longest_by_all.Goals as goal
