@@ -266,19 +266,9 @@ words =
     with open("crates/lex_table/src/table.rt", "w") as out:
         out.write(
             f"""// The automaton of the rules: {long} rows of {len(BYTES)}, the classes of the bytes, {going - long} rows of {len(columns)}, the kinds.
-// {made}. It is made once for a call and lent: an array is built anew
-// wherever a function names it.
-ghost use Rattle.std.specs.Prelude.{{◌≡◌}};
-ghost use Rattle.lex_table.specs.Table.{{table as the_table}};
-
+// {made}.
 pub const TABLE: [u16; {len(table)}] = [
 {"".join(f"    {number},{chr(10)}" for number in table)}];
-
-pub fn table() -> [u16; {len(table)}]
-    ensures {{ result ≡ the_table }}
-{{
-    TABLE
-}}
 """
         )
 

@@ -16,8 +16,8 @@ use Rattle.definitions.specs.Call.{Buffers, Asked, for, unknown, entry_of, writt
 use Rattle.definitions.specs.Call as Call
 use Rattle.definitions.specs.Text.{TextRefusal, text_number, text_place, TextVerdict, sound, unsound, numbers_of, check_text, TextResult, unchanged, with_rows, checked_text, asked_text, text_call}
 use Rattle.lexing.proofs.RowsPass.{rows_pass}
-use Rattle.lexer.specs.declared.check.Checked.{Checked}
-use Rattle.lexer.specs.declared.check.Checked.TheVariants as C
+use Rattle.std.specs.Prelude.{Result, Ok}
+use Rattle.lexer.specs.declared.check.Cause.{Cause}
 use Rattle.lexer.specs.Found.{verdict_of, Reads}
 use Rattle.lexer.proofs.Reading.{sound_text}
 use Rattle.call.specs.declared.Answer.{Answer}
@@ -35,7 +35,7 @@ refused_as : (q : TextRefusal) (tokens tokens' : List ℕ) (b : Buffers) (a : Te
     → tokens' ≡ tokens → text_result_of a tokens' b ≡ unchanged q tokens b
 refused_as q tokens tokens' b a e f = λ i. text_result_of (e i) (f i) b
 
-pub refused_entry : (e : Entrypoint) (setting : ℕ) (bytes tokens tokens' : List ℕ) (b : Buffers) (r c : Checked) (q : TextRefusal) (a : TextAnswer)
+pub refused_entry : (e : Entrypoint) (setting : ℕ) (bytes tokens tokens' : List ℕ) (b : Buffers) (r c : Result ℕ Cause) (q : TextRefusal) (a : TextAnswer)
     → Reads bytes tokens tokens' r → r ≡ c → verdict_of c ≡ unsound q → a ≡ refused_text_with (text_number q) (text_place q)
     → text_result_of a tokens' b ≡ entry_text e setting bytes tokens b
 unfolding entry_text entry_checked
@@ -55,7 +55,7 @@ pub record RowsRead (bytes tokens tokens' : List ℕ) (n : ℕ) : Type 0 where
   pub is_sound : sound ≡ check_text bytes (lex bytes) (length tokens)
   pub same_length : length tokens' ≡ length tokens
 
-pub rows_read : (bytes tokens tokens' : List ℕ) (r : Checked) (n : ℕ) → Reads bytes tokens tokens' r → r ≡ C.Sound n → RowsRead bytes tokens tokens' n
+pub rows_read : (bytes tokens tokens' : List ℕ) (r : Result ℕ Cause) (n : ℕ) → Reads bytes tokens tokens' r → r ≡ Ok n → RowsRead bytes tokens tokens' n
 rows_read bytes tokens tokens' r n w h =
     let v : sound ≡ check_text bytes (lex bytes) (length tokens) = sym (ap verdict_of h) ∙ w.verdict in
     let s = sound_text bytes (length tokens) v in

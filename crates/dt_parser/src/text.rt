@@ -10,7 +10,7 @@ use call::lent::{Buffers, Input};
 use call::text::{TextAnswer, finish, refused_text};
 use grammar::entry::Entrypoint;
 use layout::refusal;
-use lexer::check::Checked;
+use lexer::check::Cause;
 use lexer::read::read;
 
 // The call for an entry.
@@ -26,22 +26,19 @@ fn parse_entry(
         ≡ entry_text e setting bytes.now tokens.old (held buffers.old) }
 {
     match read(bytes, tokens) {
-        Checked::TooLong => refused_text(refusal::TOO_LONG, 0),
-        Checked::HighByte(at) => refused_text(refusal::HIGH_BYTE, at),
-        Checked::Directive(at) => refused_text(refusal::DIRECTIVE, at),
-        Checked::Sound(numbers) => {
-            let tokens_read = &tokens[..numbers];
-            let a = parse(
-                e,
-                Input {
-                    setting,
-                    bytes,
-                    tokens: tokens_read,
-                },
-                buffers,
-            );
+        Ok(numbers) => {
+            let rows = &tokens[..numbers];
+            let input = Input {
+                setting,
+                bytes,
+                tokens: rows,
+            };
+            let a = parse(e, input, buffers);
             finish(a, tokens, numbers)
         }
+        Err(Cause::TooLong) => refused_text(refusal::TOO_LONG, 0),
+        Err(Cause::HighByte(at)) => refused_text(refusal::HIGH_BYTE, at),
+        Err(Cause::Directive(at)) => refused_text(refusal::DIRECTIVE, at),
     }
 }
 

@@ -4,10 +4,14 @@
 // (from BLOCK_COMMENT on), and the one in which nothing can match any more.
 #![tactic(auto)]
 
-pub mod table;
+mod table;
 
 ghost use Rattle.std.specs.Prelude.{◌≡◌, ◌<◌};
-ghost use Rattle.lex_table.specs.Table.{table, row_after, kind_of_row};
+ghost use Rattle.lex_table.specs.Table.{table as the_table, row_after, kind_of_row};
+
+use crate::table::TABLE;
+
+pub const START: usize = 0;
 
 pub const FIRST_SILENT: usize = 5376;
 
@@ -24,43 +28,43 @@ pub const BYTESTRING: usize = 33536;
 
 pub const DEAD: usize = 33792;
 
-fn wide8(x: u8) -> usize
-    ensures { result ≡ x }
-{
-    x as usize
+// The table is built where it is made: make it once for a call, and lend it.
+#[derive(Drop)]
+pub struct Automaton {
+    table: [u16; 8090],
+    ghost of_the_rules: { table ≡ the_table },
 }
 
-fn wide16(x: u16) -> usize
-    ensures { result ≡ x }
-{
-    x as usize
-}
-
-// From the start or a state that matches and goes on: these have a row of 256 places, one for each byte.
-pub fn step(t: &[u16; 8090], row: usize, b: u8) -> usize
-    requires { (t.now ≡ table) × (row < 5376) }
-    ensures { result ≡ row_after row b }
-{
-    wide16(t[row + wide8(b)])
-}
-
-// From any state that goes on. The others have a row of 31 places, one for each class of bytes.
-pub fn step_any(t: &[u16; 8090], row: usize, b: u8) -> usize
-    requires { (t.now ≡ table) × (row < 24576) }
-    ensures { result ≡ row_after row b }
-{
-    let long = row < FIRST_SILENT;
-    if long {
-        return step(t, row, b);
+impl Automaton {
+    pub fn new() -> Self {
+        Automaton { table: TABLE }
     }
-    let class = wide16(t[wide8(b) + 5376]);
-    wide16(t[row / 256 * 31 + class + 4981])
-}
 
-// The kind of the token that ends in a state.
-pub fn kind_of(t: &[u16; 8090], row: usize) -> u16
-    requires { (t.now ≡ table) × (row < 33792) }
-    ensures { result ≡ kind_of_row row }
-{
-    t[row / 256 + 7957]
+    // From the start or a state that matches and goes on: these have a row of 256 places, one for each byte.
+    pub fn step(&self, row: usize, b: u8) -> usize
+        requires { row < 5376 }
+        ensures { result ≡ row_after row b }
+    {
+        self.table[row + usize::from(b)].into()
+    }
+
+    // From any state that goes on. The others have a row of 31 places, one for each class of bytes.
+    pub fn step_any(&self, row: usize, b: u8) -> usize
+        requires { row < 24576 }
+        ensures { result ≡ row_after row b }
+    {
+        if row < FIRST_SILENT {
+            return self.step(row, b);
+        }
+        let class = usize::from(self.table[usize::from(b) + 5376]);
+        self.table[row / 256 * 31 + class + 4981].into()
+    }
+
+    // The kind of the token that ends in a state.
+    pub fn kind_of(&self, row: usize) -> u16
+        requires { row < 33792 }
+        ensures { result ≡ kind_of_row row }
+    {
+        self.table[row / 256 + 7957]
+    }
 }

@@ -1,9 +1,5 @@
 // The automaton of the rules: 21 rows of 256, the classes of the bytes, 75 rows of 31, the kinds.
-// Written by tools/proofs/lex_table.py. It is made once for a call and lent: an array is built anew
-// wherever a function names it.
-ghost use Rattle.std.specs.Prelude.{◌≡◌};
-ghost use Rattle.lex_table.specs.Table.{table as the_table};
-
+// Written by tools/proofs/lex_table.py.
 pub const TABLE: [u16; 8090] = [
     256, 256, 256, 256, 256, 256, 256, 256, 256, 512, 512, 256, 256, 512, 256, 256, 256, 256, 256,
     256, 256, 256, 256, 256, 256, 256, 256, 256, 256, 256, 256, 256, 512, 768, 33024, 256, 256,
@@ -595,9 +591,3 @@ pub const TABLE: [u16; 8090] = [
     43, 2, 44, 31, 29, 60, 32, 49, 37, 38, 50, 59, 53, 51, 56, 58, 57, 52, 54, 35, 17, 23, 24, 19,
     20, 21, 18, 22, 1, 33, 34, 36, 0,
 ];
-
-pub fn table() -> [u16; 8090]
-    ensures { result ≡ the_table }
-{
-    TABLE
-}

@@ -1,8 +1,8 @@
 -- What the proofs of the functions share, in the order of the code.
 --   Hits        `longest`: what the automaton's law says of a byte range, as `Hits` has it
---   Search      one section for the three searches of the callbacks
+--   Search      the searches for a byte and of the callbacks; blanks
 --   Made        from a match and a callback's answer to the token
---   Directives  words after blanks; HighBytes: eight bytes at a time
+--   Directives  a directive's words; HighBytes: groups of eight bytes, then one byte further
 --   Passed      the loop over tokens: what is counted, found and written
 --   Verdict     of causes 2, 9 and 10 the first; Reading: so nothing is written unless a text is sound
 pub mod Hits

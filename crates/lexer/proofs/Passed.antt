@@ -13,7 +13,7 @@ use Rattle.definitions.specs.Lex.{a_token, next_token, lex}
 use Rattle.definitions.specs.Text.{found_at, is_directive, directive, numbers_of}
 use Rattle.lexing.proofs.Lengths.{TokenAt, token_at, at_end}
 use Rattle.lexer.specs.Found.{TokenHere, put_row, Lexes}
-use Rattle.lexer.specs.declared.rows.Lexed.TheVariants.{Directive, Numbers}
+use Rattle.std.specs.Prelude.{Ok, Err}
 
 -- ---------------------------------------------------------------- a row
 
@@ -111,20 +111,19 @@ module _ (bytes rows₀ rows : List ℕ) (at index : ℕ) (p : Passed bytes rows
       past kind t.len (here kind t.len t.token) (sym d) in
       rw (n, e) q
 
-  pub at_directive : true ≡ is_directive (drop at bytes) → Lexes bytes rows₀ rows (Directive at)
+  pub at_directive : true ≡ is_directive (drop at bytes) → Lexes bytes rows₀ rows (Err (record { at = at }))
   at_directive d =
       let t = next_token (drop at bytes) in
-      let z : (n : ℕ) → Directive at ≡ Numbers n → ⊥ = λ n e. let z : ◌≡◌ {A = ℕ} 0 1 = cc in omega arith in
       record {
         found = sym (further t.kind t.len (here t.kind t.len refl) ∙ rw (← d)) ∙ p.found;
         inside = h;
-        counted = λ n e. absurd (z n e);
-        written = λ n e. absurd (z n e);
+        counted = λ n e. cc;
+        written = λ n e f. cc;
         same_length = p.same_length;
       }
 
 pub at_last : (bytes rows₀ rows : List ℕ) (at index : ℕ) → Passed bytes rows₀ rows at index → length bytes ≤ at
-    → Lexes bytes rows₀ rows (Numbers index)
+    → Lexes bytes rows₀ rows (Ok index)
 unfolding directive numbers_of
 at_last bytes rows₀ rows at index p h =
     let e = at_end bytes at h in

@@ -10,11 +10,9 @@ use borrow.Author.Tests.{leb-true}
 use Rattle.definitions.specs.Layout.{MOST_BYTES, MOST_TOKEN_NUMBERS}
 use Rattle.definitions.specs.Lex.{lex}
 use Rattle.definitions.specs.Text.{Offset, nowhere, found_at, TextRefusal, has_high_byte, has_directive, TextVerdict, sound, unsound, high_byte, directive, lower, ◌or_then◌, fit, numbers_of, check_text}
-use Rattle.lexer.specs.Found.{directive_of, Lexes, verdict_of, Checks, Reads}
-use Rattle.lexer.specs.declared.rows.Lexed.{Lexed}
-use Rattle.lexer.specs.declared.rows.Lexed.TheVariants.{Directive, Numbers}
-use Rattle.lexer.specs.declared.check.Checked.{Checked}
-use Rattle.lexer.specs.declared.check.Checked.TheVariants as C
+use Rattle.std.specs.Prelude.{Result, Ok, Err}
+use Rattle.lexer.specs.Found.{directive_of, Lexes, Checks, Reads}
+use Rattle.lexer.specs.declared.rows.Directive.{Directive}
 
 -- what a sound verdict says: the bytes are few, no directive is there, and the numbers fit
 pub record SoundText (bytes : List ℕ) (room : ℕ) : Type 0 where
@@ -61,36 +59,21 @@ sound_text bytes room e =
     }
 
 -- the second pass counts what the first did
-pub read_sound : (bytes tokens tokens' : List ℕ) (r : Checked) (n : ℕ) (lexed : Lexed) → Checks bytes (length tokens) r → r ≡ C.Sound n
-    → Lexes bytes tokens tokens' lexed → Reads bytes tokens tokens' (C.Sound n)
-read_sound bytes tokens tokens' r n lexed c e l =
-    let s = sound_text bytes (length tokens) (sym (ap verdict_of e) ∙ c.verdict) in
+pub read_sound : (bytes tokens tokens' : List ℕ) (n : ℕ) (lexed : Result ℕ Directive) → Checks bytes (length tokens) (Ok n)
+    → Lexes bytes tokens tokens' lexed → Reads bytes tokens tokens' (Ok n)
+read_sound bytes tokens tokens' n lexed c l =
+    let s = sound_text bytes (length tokens) c.verdict in
     record {
-      verdict = sym (ap verdict_of e) ∙ c.verdict;
-      counted = λ m i. c.counted m (e ∙ i);
-      written = λ m i. go lexed l (l.found ∙ s.no_directive) m (c.counted m (e ∙ i)) s.room_enough;
+      verdict = c.verdict;
+      counted = c.counted;
+      written = λ m i. go lexed l (l.found ∙ s.no_directive) m (c.counted m i) s.room_enough;
       refused = λ x i. cc;
       same_length = l.same_length;
     }
   where
-    go : (x : Lexed) → Lexes bytes tokens tokens' x → directive_of x ≡ nowhere → (m : ℕ) → m ≡ length (numbers_of (lex bytes))
+    go : (x : Result ℕ Directive) → Lexes bytes tokens tokens' x → directive_of x ≡ nowhere → (m : ℕ) → m ≡ length (numbers_of (lex bytes))
         → length (numbers_of (lex bytes)) ≤ length tokens → tokens' ≡ numbers_of (lex bytes) ++ drop m tokens
-    go (Directive i) l d m h k = cc
-    go (Numbers i) l d m h k =
+    go (Err d) l e m h k = cc
+    go (Ok i) l e m h k =
         let j : i ≡ m = l.counted i refl ∙ sym h in
         subst (λ (x : ℕ). tokens' ≡ numbers_of (lex bytes) ++ drop x tokens) j (l.written i refl (omega (arith, h, j, k)))
-
--- nothing is written for a text that is not sound
-pub read_refused : (bytes tokens : List ℕ) (r q : Checked) (x : TextRefusal) → Checks bytes (length tokens) r → r ≡ q → verdict_of q ≡ unsound x
-    → Reads bytes tokens tokens q
-read_refused bytes tokens r q x c e h =
-    record {
-      verdict = sym (ap verdict_of e) ∙ c.verdict;
-      counted = λ n i. c.counted n (e ∙ i);
-      written = λ n i. absurd (never n i);
-      refused = λ y i. refl;
-      same_length = refl;
-    }
-  where
-    never : (n : ℕ) → q ≡ C.Sound n → ⊥
-    never n i = not_both (sym (ap verdict_of i) ∙ h)

@@ -1,96 +1,69 @@
--- The verdict on a text, put together as the code does: room, the lower of two offsets, all of it.
-use Prim.Native.Nat.{ℕ, ◌<◌}
-use native.Mathlib.Omega.{arith}
+-- The verdict on a text, put together as the code does: the lower of two offsets, room, all of it.
+use Prim.Native.Nat.{ℕ, ◌<◌, ◌≤◌}
 use mathlib.Core.Path.{◌≡◌, refl, sym, ◌∙◌, ap}
-use mathlib.Core.Bool.{Bool, true, false, cond, ◌&&◌}
 use mathlib.Core.List.{List}
-use lib.Dec.{leb, ltb}
 use lib.ListN.{length}
-use borrow.Author.Tests.{ltb-true, ltb-false, lt-ltb, lt-leb, le-leb}
-use Rattle.definitions.specs.Layout.{MOST_BYTES, MOST_TOKEN_NUMBERS}
+use borrow.Author.Tests.{le-leb, lt-leb}
+use Rattle.std.specs.Prelude.{Option, Some, None, Result, Ok, Err}
+use Rattle.definitions.specs.Layout.{MOST_BYTES}
 use Rattle.definitions.specs.Lex.{lex}
-use Rattle.definitions.specs.Text.{Offset, nowhere, found_at, TextVerdict, unsound, has_high_byte, has_directive, lower, ◌or_then◌, fit, numbers_of, check_text}
-use Rattle.lexer.specs.Found.{HighFrom, directive_of, Lexes, verdict_of, numbers_in, FitsRoom, Lower, Checks}
-use Rattle.lexer.specs.declared.rows.Lexed.{Lexed}
-use Rattle.lexer.specs.declared.rows.Lexed.TheVariants.{Directive, Numbers}
-use Rattle.lexer.specs.declared.check.Checked.{Checked}
-use Rattle.lexer.specs.declared.check.Checked.TheVariants as C
-
--- ---------------------------------------------------------------- room
-
-module _ (numbers room : ℕ) where
-  pub has_room : leb numbers MOST_TOKEN_NUMBERS ≡ true → leb numbers room ≡ true → FitsRoom numbers room (C.Sound numbers)
-  has_room e f = record { verdict = rw (e, f); counted = λ n i. cc }
-
-  pub no_room : leb numbers MOST_TOKEN_NUMBERS ≡ true → leb numbers room ≡ false → FitsRoom numbers room C.TooLong
-  no_room e f = record { verdict = rw (e, f); counted = λ n i. cc }
-
-  pub too_many : leb numbers MOST_TOKEN_NUMBERS ≡ false → FitsRoom numbers room C.TooLong
-  too_many e = record { verdict = rw e; counted = λ n i. cc }
+use Rattle.definitions.specs.Text.{high_byte, TextVerdict, lower, ◌or_then◌, numbers_of, check_text}
+use Rattle.lexer.specs.Found.{offset_of, Lexes, verdict_of, FitsRoom, Lower, Checks}
+use Rattle.lexer.specs.declared.rows.Directive.{Directive}
+use Rattle.lexer.specs.declared.check.Cause.{Cause}
+use Rattle.lexer.specs.declared.check.Cause.TheVariants as C
 
 -- ---------------------------------------------------------------- the lower of two offsets
 
-module _ (at high end room : ℕ) where
-  pub directive_first : ltb at high ≡ true → Lower (Directive at) high end room (C.Directive at)
-  unfolding lower ◌or_then◌
-  directive_first e = record { verdict = go (ltb high end); counted = λ n i. cc }
-    where
-      go : (b : Bool)
-          → verdict_of (C.Directive at) ≡ (lower (cond b (found_at high) nowhere) (found_at at) or_then fit (leb 0 MOST_TOKEN_NUMBERS && leb 0 room))
-      go true = rw (lt-leb high at (ltb-true at high e))
-      go false = refl
+module _ (high : Option ℕ) (lexed : Result ℕ Directive) where
+  pub neither : (n : ℕ) → high ≡ None → lexed ≡ Ok n → Lower high lexed (Ok n)
+  unfolding lower
+  neither n e f = record { verdict = rw (e, f); counted = λ m i. let j : n ≡ m = cc in f ∙ ap Ok j }
 
-  pub high_first : at < end → ltb at high ≡ false → Lower (Directive at) high end room (C.HighByte high)
-  unfolding lower ◌or_then◌
-  high_first h e =
-      let l = ltb-false at high e in
-      record {
-        verdict = rw (lt-ltb high end (omega (arith, h, l)), le-leb high at l);
-        counted = λ n i. cc;
-      }
+  pub only_directive : (d : Directive) → high ≡ None → lexed ≡ Err d → Lower high lexed (Err (C.Directive d.at))
+  unfolding lower
+  only_directive d e f = record { verdict = rw (e, f); counted = λ n i. cc }
 
-module _ (numbers high end room : ℕ) where
-  pub only_high : ltb high end ≡ true → Lower (Numbers numbers) high end room (C.HighByte high)
-  unfolding lower ◌or_then◌
-  only_high e = record { verdict = rw e; counted = λ n i. cc }
+  pub directive_first : (h : ℕ) (d : Directive) → high ≡ Some h → lexed ≡ Err d → d.at < h → Lower high lexed (Err (C.Directive d.at))
+  unfolding lower
+  directive_first h d e f l = record { verdict = rw (e, f, lt-leb h d.at l); counted = λ n i. cc }
 
-  pub neither : (r : Checked) → ltb high end ≡ false → FitsRoom numbers room r → Lower (Numbers numbers) high end room r
-  unfolding lower ◌or_then◌
-  neither r e f = record { verdict = rw e f.verdict; counted = λ n i. ap Numbers (sym (f.counted n i)) }
+  pub only_high : (h n : ℕ) → high ≡ Some h → lexed ≡ Ok n → Lower high lexed (Err (C.HighByte h))
+  unfolding lower
+  only_high h n e f = record { verdict = rw (e, f); counted = λ n i. cc }
+
+  pub high_first : (h : ℕ) (d : Directive) → high ≡ Some h → lexed ≡ Err d → h ≤ d.at → Lower high lexed (Err (C.HighByte h))
+  unfolding lower
+  high_first h d e f l = record { verdict = rw (e, f, le-leb h d.at l); counted = λ n i. cc }
 
 -- ---------------------------------------------------------------- the text
 
-pub many_bytes : (bytes : List ℕ) (room : ℕ) → leb (length bytes) MOST_BYTES ≡ false → Checks bytes room C.TooLong
+pub many_bytes : (bytes : List ℕ) (room : ℕ) → MOST_BYTES < length bytes → Checks bytes room (Err C.TooLong)
 unfolding check_text
-many_bytes bytes room e = record { verdict = rw e; counted = λ n i. cc }
+many_bytes bytes room h = record { verdict = rw (lt-leb (length bytes) MOST_BYTES h); counted = λ n i. cc }
 
--- where a directive is found, the numbers do not matter
-ends_there : (o : Offset) (i : ℕ) (v w : TextVerdict) → (lower o (found_at i) or_then v) ≡ (lower o (found_at i) or_then w)
-unfolding lower ◌or_then◌
-ends_there nowhere i v w = refl
-ends_there (found_at j) i v w = go (leb j i)
-  where
-    here : Bool → TextVerdict
-    here b = cond b (unsound (has_high_byte j)) (unsound (has_directive i))
+-- what is refused stays so
+stays : (x : Cause) (v : TextVerdict) → (verdict_of (Err x) or_then v) ≡ verdict_of (Err x)
+unfolding ◌or_then◌
+stays C.TooLong v = refl
+stays (C.HighByte i) v = refl
+stays (C.Directive i) v = refl
 
-    go : (b : Bool) → (here b or_then v) ≡ (here b or_then w)
-    go true = refl
-    go false = refl
+module _ {rows rows' : List ℕ} (bytes : List ℕ) (high : Option ℕ) (lexed : Result ℕ Directive) (room : ℕ) (h : length bytes ≤ MOST_BYTES)
+    (e : offset_of high ≡ high_byte 0 bytes) (l : Lexes bytes rows rows' lexed) where
+  pub refused : (x : Cause) → Lower high lexed (Err x) → Checks bytes room (Err x)
+  unfolding check_text ◌or_then◌
+  refused x v =
+      record {
+        verdict = rw (le-leb (length bytes) MOST_BYTES h, ← e, ← l.found, ← v.verdict) (sym (stays x _));
+        counted = λ n i. cc;
+      }
 
-counted_as : (lexed : Lexed) (o : Offset) (m room : ℕ) → ((n : ℕ) → lexed ≡ Numbers n → n ≡ m)
-    → (lower o (directive_of lexed) or_then fit (leb (numbers_in lexed) MOST_TOKEN_NUMBERS && leb (numbers_in lexed) room))
-    ≡ (lower o (directive_of lexed) or_then fit (leb m MOST_TOKEN_NUMBERS && leb m room))
-counted_as (Directive i) o m room h = ends_there o i _ _
-counted_as (Numbers n) o m room h = rw (h n refl)
-
-pub all_checked : {rows rows' : List ℕ} (bytes : List ℕ) (high room : ℕ) (lexed : Lexed) (r : Checked) → leb (length bytes) MOST_BYTES ≡ true
-    → HighFrom bytes 0 high → Lexes bytes rows rows' lexed → Lower lexed high (length bytes) room r → Checks bytes room r
-unfolding check_text
-all_checked bytes high room lexed r e h l v =
-    let m = length (numbers_of (lex bytes)) in
-    record {
-      verdict =
-          v.verdict ∙ counted_as lexed (cond (ltb high (length bytes)) (found_at high) nowhere) m room l.counted
-          ∙ rw (h.found, l.found, e);
-      counted = λ n i. l.counted n (v.counted n i);
-    }
+  pub all_checked : (n : ℕ) (r : Result ℕ Cause) → Lower high lexed (Ok n) → FitsRoom n room r → Checks bytes room r
+  unfolding check_text ◌or_then◌
+  all_checked n r v f =
+      let c : n ≡ length (numbers_of (lex bytes)) = l.counted n (v.counted n refl) in
+      record {
+        verdict = rw (le-leb (length bytes) MOST_BYTES h, ← e, ← l.found, ← v.verdict, ← c) f.verdict;
+        counted = λ m i. f.counted m i ∙ c;
+      }

@@ -1,16 +1,15 @@
 // What a text is refused for before its tokens are parsed: causes 2, 9 and 10. Nothing is written.
 ghost use Rattle.std.specs.Prelude.{◌≡◌};
-ghost use Rattle.lex_table.specs.Table.{table};
-ghost use Rattle.lexer.specs.Found.{Within, FitsRoom, Lower, Checks};
+ghost use Rattle.lexer.specs.declared.check.Cause.TheVariants as C;
+ghost use Rattle.lexer.specs.Found.{FitsRoom, Lower, Checks};
 
-use crate::rows::Lexed;
+use crate::rows::Directive;
 use crate::{high_byte, rows};
 use layout::limit::{MOST_BYTES, MOST_TOKEN_NUMBERS};
+use lex_table::Automaton;
 
-#[derive(Clone, Copy)]
-pub enum Checked {
-    // So many token numbers.
-    Sound(usize),
+#[derive(Clone, Copy, Debug, PartialEq, Eq)]
+pub enum Cause {
     // Cause 2, of bytes or token numbers.
     TooLong,
     // Cause 9, at this byte.
@@ -20,55 +19,46 @@ pub enum Checked {
 }
 
 // Cause 2 for so many token numbers, where there is room for so many.
-fn check_room(numbers: usize, room: usize) -> Checked
+fn check_room(numbers: usize, room: usize) -> Result<usize, Cause>
     ensures { FitsRoom numbers room result }
 {
-    let allowed = numbers <= MOST_TOKEN_NUMBERS;
-    if allowed {
-        let fits = numbers <= room;
-        if fits {
-            return Checked::Sound(numbers);
-        }
+    if numbers <= MOST_TOKEN_NUMBERS && numbers <= room {
+        Ok(numbers)
+    } else {
+        Err(Cause::TooLong)
     }
-    Checked::TooLong
 }
 
-// Of causes 9 and 10 the one at the lower byte; then cause 2 for token numbers.
-fn check_lexed(lexed: Lexed, high: usize, length: usize, room: usize) -> Checked
-    requires { Within length lexed }
-    ensures { Lower lexed high length room result }
+impl From<Directive> for Cause {
+    ghost from_gives = { λ d cause. cause ≡ C.Directive d.at };
+
+    fn from(directive: Directive) -> Cause {
+        Cause::Directive(directive.at)
+    }
+}
+
+// Of causes 9 and 10 the one at the lower byte.
+fn lower(high: Option<usize>, lexed: Result<usize, Directive>) -> Result<usize, Cause>
+    ensures { Lower high lexed result }
 {
+    let Some(high) = high else {
+        return Ok(lexed?);
+    };
     match lexed {
-        Lexed::Directive(at) => {
-            let first = at < high;
-            if first {
-                Checked::Directive(at)
-            } else {
-                Checked::HighByte(high)
-            }
-        }
-        Lexed::Numbers(numbers) => {
-            let found = high < length;
-            if found {
-                Checked::HighByte(high)
-            } else {
-                check_room(numbers, room)
-            }
-        }
+        Ok(_) => Err(Cause::HighByte(high)),
+        Err(directive) if directive.at < high => Err(directive.into()),
+        Err(_) => Err(Cause::HighByte(high)),
     }
 }
 
-pub fn check(t: &[u16; 8090], bytes: &[u8], room: usize) -> Checked
-    requires { t.now ≡ table }
+// How many token numbers a sound text has.
+pub fn check(automaton: &Automaton, bytes: &[u8], room: usize) -> Result<usize, Cause>
     ensures { Checks bytes.now room result }
 {
-    let allowed = bytes.len() <= MOST_BYTES;
-    if allowed {
-        let high = high_byte::first(bytes);
-        // No row has room in one number.
-        let mut no_room: [u32; 1] = [0; 1];
-        let lexed = rows::lex(t, bytes, &mut no_room);
-        return check_lexed(lexed, high, bytes.len(), room);
+    if MOST_BYTES < bytes.len() {
+        return Err(Cause::TooLong);
     }
-    Checked::TooLong
+    let lexed = rows::lex(automaton, bytes, &mut []);
+    let numbers = lower(high_byte::first(bytes), lexed)?;
+    check_room(numbers, room)
 }

@@ -1,62 +1,37 @@
-// The callbacks: the byte after a token's end, or 0 where it has none.
-ghost use Rattle.std.specs.Prelude.{false, ◌≤◌, length, drop};
+// The callbacks: how many of the bytes after a match belong to its token, or none where the token has no end.
+ghost use Rattle.std.specs.Prelude.{◌≡◌, false, ◌≤◌, length, IfSome};
 ghost use Rattle.definitions.specs.Lex.{comment_end, quote_end, bracket_end};
-ghost use Rattle.lexer.specs.Found.{Ends};
+ghost use Rattle.lexer.specs.Found.{end_of};
 
 // `lex_block_comment`.
-pub fn comment_end(bytes: &[u8], from: usize) -> usize
-    requires { from ≤ length bytes.now }
-    ensures { Ends bytes.now from result (comment_end (drop from bytes.now)) }
+pub fn comment_end(rest: &[u8]) -> Option<usize>
+    ensures found { end_of result ≡ comment_end rest.now }
+    ensures inside { IfSome result (λ n. n ≤ length rest.now) }
 {
-    let mut n = from + 1;
-    while n < bytes.len() {
-        let slash = bytes[n] == 47;
-        if slash {
-            let star = bytes[n - 1] == 42;
-            if star {
-                return n + 1;
-            }
-        }
-        n += 1;
-    }
-    0
+    rest.windows(2)
+        .position(|w| w[0] == b'*' && w[1] == b'/')
+        .map(|n| n + 2)
 }
 
 // `lex_string`, `lex_char`.
-pub fn quote_end(bytes: &[u8], from: usize, quote: u8) -> usize
-    requires { from ≤ length bytes.now }
-    ensures { Ends bytes.now from result (quote_end quote false (drop from bytes.now)) }
+pub fn quote_end(rest: &[u8], quote: u8) -> Option<usize>
+    ensures found { end_of result ≡ quote_end quote false rest.now }
+    ensures inside { IfSome result (λ n. n ≤ length rest.now) }
 {
     let mut escaped = false;
-    let mut n = from;
-    while n < bytes.len() {
-        let b = bytes[n];
-        if escaped {
-            escaped = false;
-        } else {
-            let closes = b == quote;
-            if closes {
-                return n + 1;
-            }
-            escaped = b == 92;
+    for (n, b) in rest.iter().enumerate() {
+        if !escaped && *b == quote {
+            return Some(n + 1);
         }
-        n += 1;
+        escaped = !escaped && *b == b'\\';
     }
-    0
+    None
 }
 
 // `lex_bytestring`.
-pub fn bracket_end(bytes: &[u8], from: usize) -> usize
-    requires { from ≤ length bytes.now }
-    ensures { Ends bytes.now from result (bracket_end (drop from bytes.now)) }
+pub fn bracket_end(rest: &[u8]) -> Option<usize>
+    ensures found { end_of result ≡ bracket_end rest.now }
+    ensures inside { IfSome result (λ n. n ≤ length rest.now) }
 {
-    let mut n = from;
-    while n < bytes.len() {
-        let closes = bytes[n] == 93;
-        if closes {
-            return n + 1;
-        }
-        n += 1;
-    }
-    0
+    rest.iter().position(|b| *b == b']').map(|n| n + 1)
 }

@@ -1,74 +1,32 @@
 // Cause 9: a byte of 128 or more.
-ghost use Rattle.std.specs.Prelude.{◌≡◌, true, ℕ, ◌+◌, ◌≤◌, ◌<◌, length, get_or};
-ghost use Rattle.lexer.specs.Found.{HighFrom};
+ghost use Rattle.std.specs.Prelude.{◌≡◌, ◌≤◌, leb, length, drop};
+ghost use Rattle.std.specs.List.{list_any};
+ghost use Rattle.definitions.specs.Text.{high_byte};
+ghost use Rattle.lexer.specs.Found.{offset_of};
 
-// Eight bytes from `at` on are below it. Testing eight at a time is twice as fast.
-fn eight_low(bytes: &[u8], at: usize) -> bool
-    requires { at + 8 ≤ length bytes.now }
-    ensures { result ≡ true → (k : ℕ) → k < 8 → get_or bytes.now (at + k) 0 < 128 }
+fn is_any_high(group: &[u8; 8]) -> bool
+    ensures { result ≡ list_any (leb 128) group.now }
 {
-    let high = 128 <= bytes[at];
-    if high {
-        return false;
-    }
-    let high = 128 <= bytes[at + 1];
-    if high {
-        return false;
-    }
-    let high = 128 <= bytes[at + 2];
-    if high {
-        return false;
-    }
-    let high = 128 <= bytes[at + 3];
-    if high {
-        return false;
-    }
-    let high = 128 <= bytes[at + 4];
-    if high {
-        return false;
-    }
-    let high = 128 <= bytes[at + 5];
-    if high {
-        return false;
-    }
-    let high = 128 <= bytes[at + 6];
-    if high {
-        return false;
-    }
-    let high = 128 <= bytes[at + 7];
-    if high {
-        return false;
-    }
-    true
+    group.iter().any(|b| 128 <= *b)
 }
 
-// The first one from `from` on, or the end.
-fn first_from(bytes: &[u8], from: usize) -> usize
-    requires { from ≤ length bytes.now }
-    ensures { HighFrom bytes.now from result }
+// A number of bytes at the front that are all below it. Testing eight at a time is twice as fast.
+fn low_front(bytes: &[u8]) -> usize
+    ensures inside { result ≤ length bytes.now }
+    ensures low { high_byte 0 bytes.now ≡ high_byte result (drop result bytes.now) }
 {
-    let mut i = from;
-    while i < bytes.len() {
-        let high = 128 <= bytes[i];
-        if high {
-            return i;
-        }
-        i += 1;
-    }
-    i
+    let (groups, _) = bytes.as_chunks::<8>();
+    let low = groups
+        .iter()
+        .position(|group| is_any_high(group))
+        .unwrap_or(groups.len());
+    8 * low
 }
 
-pub fn first(bytes: &[u8]) -> usize
-    ensures { HighFrom bytes.now 0 result }
+// The first one.
+pub fn first(bytes: &[u8]) -> Option<usize>
+    ensures { offset_of result ≡ high_byte 0 bytes.now }
 {
-    let mut i: usize = 0;
-    while 8 <= bytes.len() - i {
-        let low = eight_low(bytes, i);
-        if low {
-            i += 8;
-        } else {
-            return first_from(bytes, i);
-        }
-    }
-    first_from(bytes, i)
+    let low = low_front(bytes);
+    bytes[low..].iter().position(|b| 128 <= *b).map(|n| low + n)
 }

@@ -1,11 +1,10 @@
 // The longest match from a byte on.
-ghost use Rattle.std.specs.Prelude.{◌≡◌, ◌≤◌, length};
-ghost use Rattle.lex_table.specs.Table.{table};
+ghost use Rattle.std.specs.Prelude.{◌≤◌, length};
 ghost use Rattle.lexer.specs.Found.{Hits};
 
-use lex_table::{DEAD, FIRST_FINAL, FIRST_SILENT, step, step_any};
+use lex_table::{Automaton, DEAD, FIRST_FINAL, FIRST_SILENT, START};
 
-// The row of the state that the match ends in, or 0, and the byte after the match.
+// The row of the state that the match ends in, which is the start's where there is none, and the byte after the match.
 #[derive(Clone, Copy)]
 pub struct Hit {
     pub row: usize,
@@ -13,70 +12,56 @@ pub struct Hit {
 }
 
 // By any state, which is how the rare tokens are found that lead through a state without a match: `0x1f`, `/dts-v1/`.
-fn longest_by_all(t: &[u16; 8090], bytes: &[u8], at: usize) -> Hit
-    requires { (t.now ≡ table) × (at ≤ length bytes.now) }
+fn longest_by_all(automaton: &Automaton, bytes: &[u8], at: usize) -> Hit
+    requires { at ≤ length bytes.now }
     ensures { Hits bytes.now at result.row result.end }
 {
-    let mut row: usize = 0;
-    let mut n = at;
-    let mut best: usize = 0;
-    let mut end = at;
-    while n < bytes.len() {
-        let next = step_any(t, row, bytes[n]);
-        let stops = FIRST_FINAL <= next;
-        if stops {
-            let dead = next == DEAD;
-            if dead {
-                return Hit {
-                    row: best,
-                    end: end,
-                };
-            }
-            return Hit {
-                row: next,
-                end: n + 1,
-            };
+    let mut row = START;
+    let mut best = Hit {
+        row: START,
+        end: at,
+    };
+    for n in at..bytes.len() {
+        let next = automaton.step_any(row, bytes[n]);
+        let hit = Hit {
+            row: next,
+            end: n + 1,
+        };
+        if FIRST_FINAL <= next {
+            return if next == DEAD { best } else { hit };
         }
-        n += 1;
-        let matches = next < FIRST_SILENT;
-        if matches {
-            best = next;
-            end = n;
+        if next < FIRST_SILENT {
+            best = hit;
         }
         row = next;
     }
-    Hit {
-        row: best,
-        end: end,
-    }
+    best
 }
 
 // As long as every state matches, the last one is the longest match. Where one does not, all is tried again.
-pub fn longest(t: &[u16; 8090], bytes: &[u8], at: usize) -> Hit
-    requires { (t.now ≡ table) × (at ≤ length bytes.now) }
+pub fn longest(automaton: &Automaton, bytes: &[u8], at: usize) -> Hit
+    requires { at ≤ length bytes.now }
     ensures { Hits bytes.now at result.row result.end }
 {
-    let mut row: usize = 0;
-    let mut n = at;
-    while n < bytes.len() {
-        let next = step(t, row, bytes[n]);
-        let stops = FIRST_SILENT <= next;
-        if stops {
-            let dead = next == DEAD;
-            if dead {
-                return Hit { row: row, end: n };
+    let mut row = START;
+    for n in at..bytes.len() {
+        let next = automaton.step(row, bytes[n]);
+        if FIRST_SILENT <= next {
+            if next == DEAD {
+                return Hit { row, end: n };
             }
-            let last = FIRST_FINAL <= next;
-            if last {
+            if FIRST_FINAL <= next {
                 return Hit {
                     row: next,
                     end: n + 1,
                 };
             }
-            return longest_by_all(t, bytes, at);
+            return longest_by_all(automaton, bytes, at);
         }
         row = next;
-        n += 1;
     }
-    Hit { row: row, end: n }
+    Hit {
+        row,
+        end: bytes.len(),
+    }
 }

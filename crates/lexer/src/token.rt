@@ -1,14 +1,13 @@
 // The token that starts at a byte.
-ghost use Rattle.std.specs.Prelude.{◌≡◌, cond, ◌*◌, ◌/◌, ◌≤◌, ◌<◌, eqb, length, drop};
-ghost use Rattle.definitions.specs.Lex.{a_token, finish};
+ghost use Rattle.std.specs.Prelude.{◌≡◌, ◌*◌, ◌/◌, ◌≤◌, ◌<◌, ℕ, length, IfOk};
+ghost use Rattle.definitions.specs.Lex.{finish};
 ghost use Rattle.lex_table.specs.Matches.{callback_of};
-ghost use Rattle.lex_table.specs.Table.{table};
-ghost use Rattle.lexer.specs.Found.{TokenHere};
+ghost use Rattle.lexer.specs.Found.{TokenHere, closed};
 
 use crate::ends::{bracket_end, comment_end, quote_end};
 use crate::longest::longest;
 use layout::lex_error;
-use lex_table::{BLOCK_COMMENT, CHAR, STRING, kind_of};
+use lex_table::{Automaton, BLOCK_COMMENT, CHAR, START, STRING};
 
 // Its kind, and the byte after it.
 #[derive(Clone, Copy)]
@@ -17,77 +16,44 @@ pub struct Tok {
     pub end: usize,
 }
 
-// A callback's answer; where there is no end, an error token up to the text's.
-fn close(kind: u32, error: u32, found: usize, length: usize) -> Tok
-    ensures { (result.kind ≡ cond (eqb found 0) error kind) × (result.end ≡ cond (eqb found 0) length found) }
+// After a match in a state with a callback: how many more bytes the token has, or the kind of an error token up to the
+// text's end.
+fn call_back(row: usize, rest: &[u8]) -> Result<usize, u32>
+    requires { (row / 256 * 256 ≡ row) × (32768 ≤ row) }
+    ensures found { (kind n : ℕ) → closed kind n rest.now result ≡ finish n kind (callback_of (row / 256)) rest.now }
+    ensures inside { IfOk result (λ n. n ≤ length rest.now) }
 {
-    let open = found == 0;
-    if open {
-        return Tok {
-            kind: error,
-            end: length,
-        };
-    }
-    Tok {
-        kind: kind,
-        end: found,
+    match row {
+        BLOCK_COMMENT => comment_end(rest).ok_or(lex_error::UNEXPECTED_END_BLOCK_COMMENT),
+        STRING => quote_end(rest, b'"').ok_or(lex_error::UNEXPECTED_END_STRING),
+        CHAR => quote_end(rest, b'\'').ok_or(lex_error::UNEXPECTED_END_CHAR),
+        _ => bracket_end(rest).ok_or(lex_error::UNEXPECTED_END_BYTESTRING),
     }
 }
 
-// After a match that ends at `from` in a state with a callback. The contract counts a token's length from the text's
-// start, so that it is the byte after the token.
-fn call_back(kind: u32, row: usize, bytes: &[u8], from: usize) -> Tok
-    requires { (row / 256 * 256 ≡ row) × (32768 ≤ row) × (from ≤ length bytes.now) }
-    ensures { a_token result.kind result.end ≡ finish from kind (callback_of (row / 256)) (drop from bytes.now) }
-{
-    let comment = row == BLOCK_COMMENT;
-    if comment {
-        let found = comment_end(bytes, from);
-        return close(
-            kind,
-            lex_error::UNEXPECTED_END_BLOCK_COMMENT,
-            found,
-            bytes.len(),
-        );
-    }
-    let string = row == STRING;
-    if string {
-        let found = quote_end(bytes, from, 34);
-        return close(kind, lex_error::UNEXPECTED_END_STRING, found, bytes.len());
-    }
-    let char = row == CHAR;
-    if char {
-        let found = quote_end(bytes, from, 39);
-        return close(kind, lex_error::UNEXPECTED_END_CHAR, found, bytes.len());
-    }
-    let found = bracket_end(bytes, from);
-    close(
-        kind,
-        lex_error::UNEXPECTED_END_BYTESTRING,
-        found,
-        bytes.len(),
-    )
-}
-
-pub fn token_at(t: &[u16; 8090], bytes: &[u8], at: usize) -> Tok
-    requires { (t.now ≡ table) × (at < length bytes.now) }
+pub fn token_at(automaton: &Automaton, bytes: &[u8], at: usize) -> Tok
+    requires { at < length bytes.now }
     ensures { TokenHere bytes.now at result.kind result.end }
 {
-    let hit = longest(t, bytes, at);
-    let none = hit.row == 0;
-    if none {
+    let hit = longest(automaton, bytes, at);
+    if hit.row == START {
         return Tok {
             kind: lex_error::DEFAULT,
             end: at + 1,
         };
     }
-    let kind = kind_of(t, hit.row) as u32;
-    let plain = hit.row < BLOCK_COMMENT;
-    if plain {
-        return Tok {
-            kind: kind,
-            end: hit.end,
-        };
+    let kind = u32::from(automaton.kind_of(hit.row));
+    if hit.row < BLOCK_COMMENT {
+        return Tok { kind, end: hit.end };
     }
-    call_back(kind, hit.row, bytes, hit.end)
+    match call_back(hit.row, &bytes[hit.end..]) {
+        Ok(n) => Tok {
+            kind,
+            end: hit.end + n,
+        },
+        Err(error) => Tok {
+            kind: error,
+            end: bytes.len(),
+        },
+    }
 }

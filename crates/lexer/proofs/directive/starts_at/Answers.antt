@@ -1,21 +1,17 @@
--- `starts_at`: the hash, blanks, and a word of either part.
-use Rattle.basics.proofs.Flags.{flags}
-use Rattle.lexer.proofs.Directives.{after_hash, no_hash}
+-- `starts_at`: the hash, blanks, and a word.
+use Rattle.std.proofs.Common.{◌+◌}
+use borrow.Author.Tests.{eq-eqb, ne_eqb}
+use Rattle.lexer.proofs.Search.{tail}
+use Rattle.lexer.proofs.Directives.{directive_at}
 use Rattle.lexer.proofs.directive.starts_at.Goals as goal
 
-pub returns-then-begins : goal.returns-then-begins
-returns-then-begins c =
+pub returns-then-bytes-at-eq35 : goal.returns-then-bytes-at-eq35
+returns-then-bytes-at-eq35 c =
     let a = c.args in
-    let s = c.skip_blanks-word in
-    rw (after_hash a.bytes.now a.at (omega flags) s.result c.if-hash.true-raw s.ensures.1, ← c.conditional-begins.ensures, c.if-begins.true)
+    let s = a.bytes.now in
+    let n = a.at + 1 in
+    rw (directive_at s a.at c.requires, eq-eqb _ _ c.if-bytes-at-eq35.true, c.begins_with_word.ensures, c.after_blanks.ensures, tail s n)
 
-pub returns-then-hash : goal.returns-then-hash
-returns-then-hash c =
-    let a = c.args in
-    let s = c.skip_blanks-word in
-    rw (after_hash a.bytes.now a.at (omega flags) s.result c.if-hash.true-raw s.ensures.1, ← c.conditional-begins.ensures, c.if-begins.false, ← c.other.ensures)
-
-pub returns : goal.returns
-returns c =
-    let a = c.args in
-    no_hash a.bytes.now a.at (omega flags) c.if-hash.false-raw
+pub returns-else-bytes-at-eq35 : goal.returns-else-bytes-at-eq35
+returns-else-bytes-at-eq35 c =
+    rw (directive_at c.args.bytes.now c.args.at c.requires, ne_eqb _ _ c.if-bytes-at-eq35.false)

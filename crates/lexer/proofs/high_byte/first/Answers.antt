@@ -1,44 +1,21 @@
--- `first`: the bytes up to `i` are passed.
-use mathlib.Core.Path.{refl, ◌∙◌}
-use Rattle.basics.proofs.Flags.{flags}
-use Rattle.lexer.proofs.HighBytes.{past_many, from_before}
+-- `first`: behind a low front.
+use Rattle.std.proofs.Common.{rules, ◌≡◌, ◌+◌, ◌-◌, length, take, drop}
+use Rattle.std.specs.Prelude.{option_map, position}
+use Rattle.std.proofs.iter.runs.Made.{chains}
+use Rattle.std.proofs.lemmas.Iterator.{YieldsList-from_slice}
+use Rattle.std.proofs.lemmas.Iterator.Search.{position_from_yields_List}
+use Rattle.lexer.proofs.Search.{tail}
+use Rattle.lexer.proofs.HighBytes.{high, high_found}
 use Rattle.lexer.proofs.high_byte.first.Goals as goal
-
-pub loop-i-init : goal.loop-i-init
-loop-i-init c = (refl, omega flags)
-
-pub overflow_sub-bytes : goal.overflow_sub-bytes
-overflow_sub-bytes c = omega flags
-
-pub eight_low-low-requires : goal.eight_low-low-requires
-eight_low-low-requires c = omega flags
-
-pub overflow_add-i : goal.overflow_add-i
-overflow_add-i c = omega flags
-
-pub loop-i-smaller : goal.loop-i-smaller
-loop-i-smaller c = omega flags
-
-pub loop-i-preserved : goal.loop-i-preserved
-loop-i-preserved c =
-    let a = c.args in
-    let l = c.loop-i in
-    (l.invariant.0 ∙ past_many a.bytes.now 8 l.i (omega flags) (c.eight_low-low.ensures c.if-low.true), omega flags)
-
-pub first_from-requires : goal.first_from-requires
-first_from-requires c = omega flags
-
-pub returns-else-low : goal.returns-else-low
-returns-else-low c =
-    let a = c.args in
-    let l = c.loop-i in
-    from_before a.bytes.now 0 l.i c.first_from.result l.invariant.0 c.first_from.ensures
-
-pub first_from-requires-2 : goal.first_from-requires-2
-first_from-requires-2 c = omega flags
 
 pub returns : goal.returns
 returns c =
-    let a = c.args in
-    let l = c.loop-i in
-    from_before a.bytes.now 0 l.i c.first_from-2.result l.invariant.0 c.first_from-2.ensures
+    let s = c.args.bytes.now in
+    let low = c.low_front-low in
+    let n = low.result in
+    let r = c.position.result in
+    let p : r ≡ position high (take (length s - n) (drop n s)) =
+    position_from_yields_List high _ _ r c.position.ensures.ran
+    (YieldsList-from_slice _ c.iter.ensures.rest) (λ x b q k. search rules) in
+    let e : c.map.result ≡ option_map (λ k. n + k) r = search (rules, chains) in
+    rw (e, p, tail s n, low.ensures.low) (high_found n (drop n s))

@@ -1,15 +1,12 @@
 -- `put`: both branches of the definition.
-use Rattle.basics.proofs.Flags.{flags}
+use borrow.Author.Tests.{lt-ltb, le-ltb}
 use Rattle.lexer.specs.Found.{put_row}
 use Rattle.lexer.proofs.rows.put.Goals as goal
 
-pub bounds-rows-index : goal.bounds-rows-index
-bounds-rows-index c = omega flags
-
-pub returns-then-fits : goal.returns-then-fits
+pub returns-then-index-rows : goal.returns-then-index-rows
 unfolding put_row
-returns-then-fits c = rw c.if-fits.true-raw
+returns-then-index-rows c = rw (lt-ltb _ _ c.if-index-rows.true)
 
-pub returns-else-fits : goal.returns-else-fits
+pub returns-else-index-rows : goal.returns-else-index-rows
 unfolding put_row
-returns-else-fits c = rw c.if-fits.false-raw
+returns-else-index-rows c = rw (le-ltb _ _ c.if-index-rows.false)

@@ -1,44 +1,51 @@
 -- `call_back`: the search of the callback that the row is of.
+use Prim.Native.Nat.{ℕ, ◌/◌}
 use native.Mathlib.Omega.{arith}
-use mathlib.Core.Path.{refl}
+use mathlib.Core.Path.{refl, ◌∙◌, ap}
 use Rattle.definitions.specs.LexError as L
 use Rattle.definitions.specs.Rules.{lex_block_comment, lex_string, lex_char, lex_bytestring}
 use Rattle.definitions.specs.Lex.{finish}
 use Rattle.lex_table.specs.Matches.{callback_of}
-use Rattle.lexer.proofs.Made.{closed_as, row_callback, last_callback}
+use Rattle.lexer.specs.Found.{closed}
+use Rattle.lexer.proofs.Made.{closed_or, last_callback}
 use Rattle.lexer.proofs.token.call_back.Goals as goal
 
-pub returns-then-comment : goal.returns-then-comment
+pub returns-in-32768-clause-found : goal.returns-in-32768-clause-found
 unfolding finish callback_of
-returns-then-comment c =
+returns-in-32768-clause-found c kind n =
     let a = c.args in
-    let s = c.comment_end-found in
-    closed_as a.kind L.UnexpectedEndBlockComment a.from s.result a.row a.bytes.now lex_block_comment (omega arith)
-    s.ensures c.close.ensures (row_callback a.row 32768 c.if-comment.true-raw) refl
+    let rest = a.rest.now in
+    let s = c.comment_end in
+    ap (closed kind n rest) c.ok_or.ensures.value
+    ∙ closed_or kind L.UnexpectedEndBlockComment n a.row rest lex_block_comment s.result s.ensures.found
+    (ap (λ (i : ℕ). callback_of (i / 256)) c.in-32768.is) refl
 
-pub returns-then-string : goal.returns-then-string
+pub returns-in-33024-clause-found : goal.returns-in-33024-clause-found
 unfolding finish callback_of
-returns-then-string c =
+returns-in-33024-clause-found c kind n =
     let a = c.args in
-    let s = c.quote_end-found in
-    closed_as a.kind L.UnexpectedEndString a.from s.result a.row a.bytes.now lex_string (omega arith)
-    s.ensures c.close-then-string.ensures (row_callback a.row 33024 c.if-string.true-raw) refl
+    let rest = a.rest.now in
+    let s = c.quote_end in
+    ap (closed kind n rest) c.ok_or-in-33024.ensures.value
+    ∙ closed_or kind L.UnexpectedEndString n a.row rest lex_string s.result s.ensures.found
+    (ap (λ (i : ℕ). callback_of (i / 256)) c.in-33024.is) refl
 
-pub returns-then-char : goal.returns-then-char
+pub returns-in-33280-clause-found : goal.returns-in-33280-clause-found
 unfolding finish callback_of
-returns-then-char c =
+returns-in-33280-clause-found c kind n =
     let a = c.args in
-    let s = c.quote_end-found-then-char in
-    closed_as a.kind L.UnexpectedEndChar a.from s.result a.row a.bytes.now lex_char (omega arith)
-    s.ensures c.close-then-char.ensures (row_callback a.row 33280 c.if-char.true-raw) refl
+    let rest = a.rest.now in
+    let s = c.quote_end-in-33280 in
+    ap (closed kind n rest) c.ok_or-in-33280.ensures.value
+    ∙ closed_or kind L.UnexpectedEndChar n a.row rest lex_char s.result s.ensures.found
+    (ap (λ (i : ℕ). callback_of (i / 256)) c.in-33280.is) refl
 
-pub returns : goal.returns
-unfolding finish callback_of
-returns c =
-    let p = c in
-    let a = p.args in
-    let s = c.bracket_end-found in
-    let l = c.if-comment.false-raw in
-    let w = last_callback a.row p.requires.0 (omega arith) l c.if-string.false-raw c.if-char.false-raw in
-    closed_as a.kind L.UnexpectedEndBytestring a.from s.result a.row a.bytes.now lex_bytestring (omega arith)
-    s.ensures c.close-2.ensures w refl
+pub returns-in_default-clause-found : goal.returns-in_default-clause-found
+unfolding finish
+returns-in_default-clause-found c kind n =
+    let a = c.args in
+    let rest = a.rest.now in
+    let s = c.bracket_end in
+    ap (closed kind n rest) c.ok_or-in_default.ensures.value
+    ∙ closed_or kind L.UnexpectedEndBytestring n a.row rest lex_bytestring s.result s.ensures.found
+    (last_callback a.row c.requires.0 c.requires.1 (λ e. omega (arith, e)) (λ e. omega (arith, e)) (λ e. omega (arith, e))) refl
