@@ -10,7 +10,7 @@ use lib.ListN.{length, drop, length-append, take, take-append-drop}
 use lib.Seq.{drop_at}
 use Rattle.basics.specs.Word.{low}
 use Rattle.basics.proofs.Tests.{eqb_swap}
-use Rattle.definitions.specs.Layout.{REPORT_ROW, NO_REPORT_ROOM, TWO_TO_32}
+use Rattle.definitions.specs.Layout.{TWO_TO_32}
 use Rattle.definitions.specs.TokenKind as K
 use Rattle.definitions.specs.Token.{Token, seen, one_of, first_in, trivia, drop_trivia, past, byte_count}
 use Rattle.definitions.specs.Skeleton.{Skeleton, done, token, name, node, ignored, report, over}
@@ -18,10 +18,9 @@ use Rattle.definitions.specs.Place.{after}
 use Rattle.laws.proofs.Skeleton.{bytes_append}
 use Rattle.laws.proofs.Trivia.{drop_twice}
 use Rattle.laws.proofs.NamesFound.{Back, first_curly}
-use Rattle.machine.specs.Machine.{fits}
 use Rattle.token_rows.specs.declared.token.Seat.{Seat}
-use Rattle.labels.specs.declared.report.Names.{Names}
-use Rattle.labels.specs.Model.{breaks, next_seat, passed, past_solid, first_solid, solid_after, Out, out, put_row, reported}
+use Rattle.std.specs.Prelude.{Ok, Err}
+use Rattle.labels.specs.Model.{breaks, next_seat, passed, past_solid, first_solid, solid_after, Names, Out, out, reported}
 use Rattle.labels.proofs.Taken.{Firsts}
 
 -- ---------------------------------------------------------------- lists of tokens
@@ -101,18 +100,24 @@ solid_shorter (t ∷ ts) = let h : length (drop_trivia ts) ≤ length ts = solid
 
 -- ---------------------------------------------------------------- reports, and a file
 
+-- how many numbers are written
+abbrev pub count : Names → ℕ
+count (Ok written) = written
+count (Err e) = e.written
+
 -- what has become of them, with the buffer
 pub record Rep : Type 0 where
-  pub written : ℕ
-  pub refusal : ℕ
-  pub place : ℕ
+  pub names : Names
   pub reports : List ℕ
 
-abbrev pub names_of : Rep → Names
-names_of r = record { written = r.written; refusal = r.refusal; place = r.place }
-
 abbrev pub held : Rep → Out
-held r = out (names_of r) r.reports
+held r = out r.names r.reports
+
+abbrev pub rep : Out → Rep
+rep (out s reports) = record { names = s; reports = reports }
+
+held_rep : (x : Out) → x ≡ held (rep x)
+held_rep (out s reports) = refl
 
 pub record File : Type 0 where
   pub bytes : List ℕ
@@ -236,11 +241,8 @@ module _ (F : File) where
   -- ---------------------------------------------------------------- reports
 
   unfoldable pub pushed : ℕ → ℕ → ℕ → Rep → Rep
-  unfolding put_row
-  pushed start end at r =
-      let more : Rep = record { written = r.written + REPORT_ROW; refusal = r.refusal; place = r.place; reports = put_row r.written start end (low at) first r.reports } in
-      let none : Rep = record { written = r.written; refusal = NO_REPORT_ROOM; place = at; reports = r.reports } in
-      cond (eqb r.refusal 0) (cond (fits (length r.reports) r.written REPORT_ROW) more none) r
+  unfolding reported
+  pushed start end at r = rep (reported start end at first (held r))
 
   unfoldable pub emit : Back → Rep → Rep
   unfolding pushed breaks
@@ -260,16 +262,5 @@ module _ (F : File) where
   emits_append (x ∷ l) m r = emits_append l m (emit x r)
 
   pub reported_held : (r : Rep) (start end at : ℕ) → reported start end at first (held r) ≡ held (pushed start end at r)
-  unfolding reported pushed
-  reported_held r start end at = go (eqb r.refusal 0) (fits (length r.reports) r.written REPORT_ROW)
-    where
-      more : Rep
-      more = record { written = r.written + REPORT_ROW; refusal = r.refusal; place = r.place; reports = put_row r.written start end (low at) first r.reports }
-
-      none : Rep
-      none = record { written = r.written; refusal = NO_REPORT_ROOM; place = at; reports = r.reports }
-
-      go : (a b : Bool) → cond a (cond b (held more) (held none)) (held r) ≡ held (cond a (cond b more none) r)
-      go true true = refl
-      go true false = refl
-      go false b = refl
+  unfolding pushed
+  reported_held r start end at = held_rep (reported start end at first (held r))

@@ -21,7 +21,7 @@ use Rattle.labels.specs.Model.{breaks, out, judged_kind, On, on, with_names, tok
 use Rattle.labels.proofs.JudgedNodes.{Plain}
 use Rattle.labels.proofs.Taken.{Firsts, Taken}
 use Rattle.labels.proofs.Alone.{alone_curly, alone_found}
-use Rattle.labels.proofs.Standing.{Rep, names_of, held, File, Part, part_past, part_drop, part_solid, part_after, seated, seat_there, passed_seat, solid_there, beyond, beyond_firsts, curly_first, past_drop, pushed, emit, emits, emits_append, reported_held}
+use Rattle.labels.proofs.Standing.{Rep, held, File, Part, part_past, part_drop, part_solid, part_after, seated, seat_there, passed_seat, solid_there, beyond, beyond_firsts, curly_first, past_drop, pushed, emit, emits, emits_append, reported_held}
 use Rattle.labels.proofs.Alike.{Alike, alike_self, emits_undone}
 use Rattle.labels.proofs.Told.{told}
 
@@ -77,7 +77,7 @@ module _ (F : File) where
 
   -- before these tokens, d nodes deep; b: an LCurly was seen
   abbrev pub walking : List Token → ℕ → Bool → Rep → Walk
-  walking ts d b r = record { depth = d; at = length all - length ts; byte = byte_count all - byte_count ts; braced = b; names = names_of r }
+  walking ts d b r = record { depth = d; seat = seated F ts; braced = b; names = r.names }
 
   abbrev pub state : List Token → ℕ → Bool → Rep → On
   state ts d b r = on (walking ts d b r) r.reports
@@ -274,7 +274,7 @@ module _ (F : File) where
   pub record Node-judged (k : ℕ) (i : Skeleton) (ts : List Token) (es : List Event) (r : Rep) : Type 0 where
     pub last : Rep
     pub alike : Alike (emits F (found (under k (curly i ts)) i ts) r) last
-    pub runs : node_on bytes all first k (told i ++ es) (seated F (drop_trivia ts)).at (seated F (drop_trivia ts)).byte (held r) ≡ held last
+    pub runs : node_on bytes all first k (told i ++ es) (seated F (drop_trivia ts)) (held r) ≡ held last
 
   pub node_judged : (k : ℕ) (i : Skeleton) (ts : List Token) (es : List Event) (r : Rep) → judged_kind k ≡ true → Part F ts → Chained i → Plain i → Taken i ts → Closes es
       → Node-judged k i ts es r
@@ -288,9 +288,9 @@ module _ (F : File) where
       inner = direct i ts false r es h c p t ∙ e (drop_trivia (after i ts)) (curly i ts) names
 
       by : (y z : Bool) → eqb k N.DtPhandle ≡ y → curly i ts ≡ z
-          → node_on bytes all first k (told i ++ es) (seated F (drop_trivia ts)).at (seated F (drop_trivia ts)).byte (held r)
-          ≡ cond y (cond z (out (names_of r) names.reports) (held names)) (held names)
-      by y z f g = ap (settled k (names_of r)) inner ∙ rw (f, g) refl
+          → node_on bytes all first k (told i ++ es) (seated F (drop_trivia ts)) (held r)
+          ≡ cond y (cond z (out r.names names.reports) (held names)) (held names)
+      by y z f g = ap (settled k r.names) inner ∙ rw (f, g) refl
 
       go : (x : Bool) → eqb k N.DtLabel ≡ x → (y : Bool) → eqb k N.DtPhandle ≡ y → (z : Bool) → curly i ts ≡ z → (x || y) ≡ true → Node-judged k i ts es r
       go true a true f z g q =

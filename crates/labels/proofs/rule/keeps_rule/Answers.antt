@@ -1,5 +1,5 @@
 -- `keeps_rule`: the first byte a letter, and the others in a label.
-use Rattle.std.proofs.Common.{◌<◌, List, [], length, drop, rules, arith, IsTrue}
+use Rattle.std.proofs.Common.{arith}
 use Rattle.std.proofs.lemmas.Grind.{common_steps}
 use Rattle.definitions.specs.Strict.{keeps_rule}
 use Rattle.labels.proofs.LabelBytes.{first_keeps}

@@ -1,15 +1,7 @@
--- `next_judged`: from this row on is found what is found from the first.
-use Prim.Native.Nat.{◌-◌, ◌*◌, ◌/◌}
-use mathlib.Core.Path.{◌≡◌}
-use lib.ListN.{drop}
-use Rattle.definitions.specs.Layout.{EVENT_ROW}
+-- `next_judged`: from this event on is found what is found from the first.
+use Rattle.std.proofs.Common.{◌≡◌, drop}
 use Rattle.labels.specs.Model.{shown, next_judged}
 use Rattle.labels.proofs.scan.next_judged.Given as goal
 
-abbrev pub invariant-loop-i : goal.invariant-loop-i
-invariant-loop-i l =
-    (next_judged (drop (l.i / EVENT_ROW) (shown l.events)) (l.i / EVENT_ROW) l.behind ≡ next_judged (drop l.from (shown l.events))
-    l.from 0) × (l.i ≡ l.i / EVENT_ROW * EVENT_ROW)
-
-abbrev pub decreases-loop-i : goal.decreases-loop-i
-decreases-loop-i l = l.end - l.i
+abbrev pub invariant-loop-event : goal.invariant-loop-event
+invariant-loop-event l = next_judged (drop l.event (shown l.events)) l.event l.behind ≡ next_judged (drop l.fn.from (shown l.events)) l.fn.from 0
