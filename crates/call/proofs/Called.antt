@@ -3,7 +3,7 @@ use Prim.Native.Nat.{ℕ, ◌≤◌}
 use native.Mathlib.Omega.{arith}
 use mathlib.Core.Path.{◌≡◌, refl, ap, sym, ◌∙◌, subst}
 use mathlib.Core.List.{List}
-use mathlib.Core.Bool.{Bool, true, false, cond}
+use mathlib.Core.Bool.{Bool, true, false}
 use lib.Dec.{eqb}
 use lib.ListN.{length, take}
 use borrow.Author.Tests.{eqb-true, eqb-false}
@@ -17,14 +17,15 @@ use Rattle.machine.specs.Machine.{Machine}
 use Rattle.sink.specs.declared.Sunk.{Sunk}
 use Rattle.sink.specs.declared.Sunk.TheVariants.{Written, NoRoom}
 use Rattle.sink.specs.Promise as Sink
-use Rattle.labels.specs.declared.report.Names.{Names}
+use Rattle.std.specs.Prelude.{Ok, Err}
+use Rattle.labels.specs.Model.{Names}
 use Rattle.labels.specs.Promise as Labels
-use Rattle.refinement.specs.Ends.{swept, refused_at, sunk_answer, last_answer, after_all, SameLengths, Parsed, CallEnds}
+use Rattle.refinement.specs.Ends.{swept, sunk_answer, last_answer, after_all, SameLengths, Parsed, CallEnds}
 use Rattle.refinement.proofs.Ends.{calls_end}
 use Rattle.call.specs.declared.Answer.{Answer}
 use Rattle.call.specs.Result.{answer_of, result_of}
 use Rattle.call.specs.Checked.{Refused}
-use Rattle.call.specs.Ended.{refused_with, sunk_with, named_with, AnswerOfRun, Ended}
+use Rattle.call.specs.Ended.{sunk_with, named_with, AnswerOfRun, Ended}
 
 -- ---------------------------------------------------------------- the parse
 
@@ -34,12 +35,8 @@ same_sunk (Written t f) r p = refl
 same_sunk NoRoom r p = refl
 
 same_answer : (s : Sunk) (w : Names) (m : Machine) → answer_of (named_with s w m.pool.count) ≡ last_answer s w m
-same_answer s w m = go (eqb w.refusal 0)
-  where
-    go : (b : Bool) → answer_of (cond b (sunk_with s w.written m.pool.count) (refused_with w.refusal w.place))
-        ≡ cond b (sunk_answer s w.written m.pool.count) (refused_at w.refusal w.place)
-    go true = same_sunk s w.written m.pool.count
-    go false = refl
+same_answer s (Ok written) m = same_sunk s written m.pool.count
+same_answer s (Err e) m = refl
 
 -- e: the entry. b: the buffers at first. m: the parser's machine after its run.
 module _ (setting : ℕ) (e : Entry) (bytes tokens : List ℕ) (b : Buffers) (m : Machine) (ok : check_input bytes tokens ≡ accepted) (parsed : Parsed e tokens b m)

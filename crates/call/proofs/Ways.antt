@@ -3,19 +3,21 @@ use Prim.Native.Nat.{ℕ, ◌*◌, ◌/◌, ◌<◌}
 use native.Mathlib.Omega.{arith}
 use mathlib.Core.Path.{◌≡◌, ap, sym, ◌∙◌, subst}
 use mathlib.Core.List.{List}
-use mathlib.Core.Bool.{Bool, true, false, cond}
+use mathlib.Core.Bool.{true, false}
 use lib.Dec.{eqb}
 use lib.ListN.{length, take}
 use borrow.Author.Tests.{eqb-true, eqb-false}
 use Rattle.basics.specs.Word.{low}
-use Rattle.definitions.specs.Layout.{TREE_ROW, ERROR_ROW, REPORT_ROW, NO_TREE_ROOM, TWO_TO_32, TWO_TO_64}
+use Rattle.definitions.specs.Layout.{TREE_ROW, ERROR_ROW, REPORT_ROW, NO_REPORT_ROOM, NO_TREE_ROOM, TWO_TO_32, TWO_TO_64}
 use Rattle.definitions.specs.Refusal.{Refusal, accepted, refused}
 use Rattle.definitions.specs.RowCauses.{check_input}
 use Rattle.definitions.specs.Call.{refusal}
 use Rattle.sink.specs.declared.Sunk.{Sunk}
 use Rattle.sink.specs.declared.Sunk.TheVariants.{Written, NoRoom}
 use Rattle.sink.specs.Promise as Sink
-use Rattle.labels.specs.declared.report.Names.{Names}
+use Rattle.std.specs.Prelude.{Ok, Err}
+use Rattle.labels.specs.declared.report.NoReportRoom.{NoReportRoom}
+use Rattle.labels.specs.Model.{Names}
 use Rattle.labels.specs.Promise as Labels
 use Rattle.refinement.specs.Ends.{wiped, swept}
 use Rattle.call.specs.declared.Answer.{Answer}
@@ -69,16 +71,16 @@ module _ (k setting n r p : ℕ) (bytes tokens events trees errors reports trees
       }
 
   -- all reports fit
-  pub fitted : eqb w.refusal 0 ≡ true → a ≡ sunk_with s w.written p → CountsFit a
+  pub fitted : (written : ℕ) → w ≡ Ok written → a ≡ sunk_with s written p → CountsFit a
       → AnswerOfRun k setting n r p bytes tokens events trees errors reports a trees' errors' reports'
-  fitted q e f = answered (e ∙ sym (ap (λ (b : Bool). cond b (sunk_with s w.written p) (refused_with w.refusal w.place)) q)) f
+  fitted written q e f = answered (e ∙ sym (ap (λ (x : Names). named_with s x p) q)) f
 
   -- cause 7
-  pub not_fitted : eqb w.refusal 0 ≡ false → a ≡ refused_with w.refusal w.place
+  pub not_fitted : (e : NoReportRoom) → w ≡ Err e → a ≡ refused_with NO_REPORT_ROOM e.mark
       → AnswerOfRun k setting n r p bytes tokens events trees errors reports a trees' errors' reports'
-  not_fitted q e =
-      answered (e ∙ sym (ap (λ (b : Bool). cond b (sunk_with s w.written p) (refused_with w.refusal w.place)) q))
-      (subst CountsFit (sym e) (none_fit w.refusal w.place))
+  not_fitted e q h =
+      answered (h ∙ sym (ap (λ (x : Names). named_with s x p) q))
+      (subst CountsFit (sym h) (none_fit NO_REPORT_ROOM e.mark))
 
 -- ---------------------------------------------------------------- answer_of_parse
 

@@ -6,7 +6,7 @@ ghost use Rattle.call.specs.Ended.{CountsFit, sunk_with, AnswersRun, AnswersPars
 use crate::buffer::clear;
 use crate::{Answer, accepted, refused};
 use labels::judge::report_names;
-use layout::refusal::NO_TREE_ROOM;
+use layout::refusal::{NO_REPORT_ROOM, NO_TREE_ROOM};
 use layout::row::{ERROR_ROW, REPORT_ROW, TREE_ROW};
 use layout::word::low32;
 use sink::Sunk;
@@ -47,7 +47,7 @@ fn answer_of_run(
         bytes tokens events trees errors reports result }
 {
     let sunk = sink::finish(root_kind, tokens, &events[..events_written], trees, errors);
-    let names = report_names(
+    match report_names(
         setting,
         root_kind,
         bytes,
@@ -56,12 +56,9 @@ fn answer_of_run(
         reports,
         reports_written,
         low32(pool_written),
-    );
-    let fitted = names.refusal == 0;
-    if fitted {
-        answer_of_sink(sunk, names.written, pool_written)
-    } else {
-        refused(names.refusal, names.place)
+    ) {
+        Ok(written) => answer_of_sink(sunk, written, pool_written),
+        Err(no_room) => refused(NO_REPORT_ROOM, no_room.mark),
     }
 }
 
