@@ -2,6 +2,7 @@ pub mod LabelBytes
 pub mod Turns
 pub mod Seats
 pub mod EventRows
+pub mod NextJudged
 pub mod Inside
 pub mod NodeToNode
 pub mod JudgedNodes

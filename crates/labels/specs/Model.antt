@@ -33,9 +33,6 @@ event_of tag argument =
     (cond (eqb tag ADD_COMBINED_TOKEN) (Name argument)
     (cond (eqb tag START_NODE || eqb tag LINKED_START_NODE) (Start argument) (cond (eqb tag FINISH_NODE) Finish Other)))
 
-abbrev pub event_at : List ℕ → ℕ → Event
-event_at events i = event_of (get_or events (i * EVENT_ROW + EVENT_TAG) 0) (get_or events (i * EVENT_ROW + EVENT_ARGUMENT) 0)
-
 -- the events that rows say; numbers that make no whole row say none
 unfoldable pub shown : List ℕ → List Event
 shown [] = []
@@ -172,17 +169,25 @@ node_on bytes ts first kind es p (out s reports) = settled kind s (inside_on byt
 
 -- ---------------------------------------------------------------- from node to node
 
-abbrev pub found : ℕ → ℕ → ℕ → Found
-found i kind behind = record { event = i; kind = kind; behind = behind }
+-- the start of a judged node: its kind, how many tokens that are not trivia were taken before it, and the events after it
+pub record Next : Type 0 where
+  pub kind : ℕ
+  pub behind : ℕ
+  pub after : List Event
 
--- i: the first of these events. behind: how many tokens that are not trivia were taken.
-unfoldable pub next_judged : List Event → ℕ → ℕ → Option Found
-next_judged [] i behind = None
-next_judged (Start k ∷ es) i behind = let later = next_judged es (i + 1) behind in cond (judged_kind k) (Some (found i k behind)) later
-next_judged (AddToken ∷ es) i behind = next_judged es (i + 1) (low (behind + 1))
-next_judged (Name n ∷ es) i behind = next_judged es (i + 1) (low (behind + n))
-next_judged (Finish ∷ es) i behind = next_judged es (i + 1) behind
-next_judged (Other ∷ es) i behind = next_judged es (i + 1) behind
+abbrev pub next_of : Option Found → Option Next
+next_of None = None
+next_of (Some f) = Some (record { kind = f.kind; behind = f.behind; after = shown f.after.now })
+
+-- behind: how many tokens that are not trivia were taken
+unfoldable pub next_judged : List Event → ℕ → Option Next
+next_judged [] behind = None
+next_judged (Start k ∷ es) behind =
+    let later = next_judged es behind in cond (judged_kind k) (Some (record { kind = k; behind = behind; after = es })) later
+next_judged (AddToken ∷ es) behind = next_judged es (low (behind + 1))
+next_judged (Name n ∷ es) behind = next_judged es (low (behind + n))
+next_judged (Finish ∷ es) behind = next_judged es behind
+next_judged (Other ∷ es) behind = next_judged es behind
 
 -- p: the place from which `behind` counts
 unfoldable pub nodes_on : List ℕ → List Token → ℕ → List Event → ℕ → Seat → Out → Out

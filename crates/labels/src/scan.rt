@@ -1,44 +1,42 @@
 // From one judged node to the next. Most events lie outside such nodes, so this counts tokens alone: their places are
 // worked out once a node is found.
-ghost use Rattle.std.specs.Prelude.{◌≡◌, ◌/◌, ◌≤◌, ◌<◌, IfSome, length, drop};
-ghost use Rattle.definitions.specs.Layout.{EVENT_ROW};
-ghost use Rattle.labels.specs.Model.{shown, next_judged};
+ghost use Rattle.std.specs.Prelude.{◌≡◌, ◌<◌, IfSome, length};
+ghost use Rattle.labels.specs.Model.{shown, next_of, next_judged};
 
-use crate::event::{Event, event_at};
+use crate::event::is_start;
 use crate::node::is_judged;
-use layout::row::EVENT_ROW;
-use layout::word;
+use layout::event_tag::{ADD_COMBINED_TOKEN, ADD_TOKEN};
 
 // The start of a judged node.
 #[derive(Clone, Copy)]
-pub struct Found {
-    pub event: usize,
+pub struct Found<'a> {
     pub kind: u32,
     // How many raw tokens that are not trivia were taken on the way.
     pub behind: u32,
+    // The events after it.
+    pub after: &'a [u32],
 }
 
-// The first one from an event on.
-pub fn next_judged(events: &[u32], from: usize) -> Option<Found>
-    ensures value { result ≡ next_judged (drop from (shown events.now)) from 0 }
-    ensures further { IfSome result (λ f. (from ≤ f.event) × (f.event < length events.now / EVENT_ROW)) }
+// The first one among these events.
+pub fn next_judged(events: &[u32]) -> Option<Found<'_>>
+    ensures value { next_of result ≡ next_judged (shown events.now) 0 }
+    ensures further { IfSome result (λ f. length f.after.now < length events.now) }
 {
+    let mut events = events;
     let mut behind: u32 = 0;
-    for event in from..events.len() / EVENT_ROW {
-        match event_at(events, event) {
-            Event::Start(kind) => {
-                if is_judged(kind) {
-                    return Some(Found {
-                        event,
-                        kind,
-                        behind,
-                    });
-                }
-            }
-            Event::Token => behind = word::add(behind, 1),
-            Event::Name(n) => behind = word::add(behind, n),
-            Event::Finish | Event::Other => {}
+    while let [tag, argument, _, after @ ..] = events {
+        if *tag == ADD_TOKEN {
+            behind = behind.wrapping_add(1);
+        } else if *tag == ADD_COMBINED_TOKEN {
+            behind = behind.wrapping_add(*argument);
+        } else if is_judged(*argument) && is_start(*tag) {
+            return Some(Found {
+                kind: *argument,
+                behind,
+                after,
+            });
         }
+        events = after;
     }
     None
 }

@@ -1,36 +1,34 @@
--- `next_judged`: from this event on is found what is found from the first.
-use Rattle.std.proofs.Common.{inl, inr, arith}
-use Rattle.labels.specs.Model.{next_judged}
-use Rattle.labels.proofs.EventRows.{events_cons, events_end}
+-- `next_judged`: among these events is found what is found among all.
+use Rattle.std.proofs.Common.{◌≡◌, false, length, eqb, get_or, drop, rules, arith}
+use Rattle.std.proofs.lemmas.Grind.{common_steps}
+use Rattle.definitions.specs.Layout.{ADD_TOKEN, ADD_COMBINED_TOKEN}
+use Rattle.labels.proofs.NextJudged.{next_token, next_name, next_other, next_found, next_none}
 use Rattle.labels.proofs.scan.next_judged.Goals as goal
-use Rattle.labels.proofs.scan.next_judged.Goals.{in-Start+else-is_judged, in-Token, in-Name, in-Finish}
 
-pub returns-then-is_judged-clause-value : goal.returns-then-is_judged-clause-value
-unfolding next_judged
-returns-then-is_judged-clause-value c =
-    let e = events_cons c.args.events.now c.loop-event.event (omega arith) in
-    rw (e, ← c.event_at.ensures, c.in-Start.is, ← c.is_judged.ensures, c.if-is_judged.true) at c.loop-event.invariant
+pub returns-then-is_start-clause-value : goal.returns-then-is_start-clause-value
+returns-then-is_start-clause-value c =
+    next_found c.loop-events.events.now _ c.loop-events.behind _ (omega arith) (grind (arith, common_steps)) (search rules) (search rules) (grind (arith, common_steps)) c.loop-events.invariant.same
 
-pub loop-event-preserved : goal.loop-event-preserved
-unfolding next_judged
-loop-event-preserved c =
-    let e = events_cons c.args.events.now c.loop-event.event (omega arith) in
-    elim c.match-event_at.branch [
-      | in-Start+else-is_judged w ↦
-          rw w.behind-is (rw (e, ← c.event_at.ensures, w.in-Start.is, ← w.is_judged.ensures, w.if-is_judged.false) at c.loop-event.invariant)
-      | in-Token w ↦
-          rw (w.behind-is, w.add-behind.ensures) (rw (e, ← c.event_at.ensures, w.in-Token.is) at c.loop-event.invariant)
-      | in-Name w ↦
-          rw (w.behind-is, w.add-behind-in-Name.ensures) (rw (e, ← c.event_at.ensures, w.in-Name.is) at c.loop-event.invariant)
-      | in-Finish w ↦
-          elim w.in-Finish.is [
-            | inl f ↦ rw w.behind-is (rw (e, ← c.event_at.ensures, f) at c.loop-event.invariant)
-            | inr o ↦ rw w.behind-is (rw (e, ← c.event_at.ensures, o) at c.loop-event.invariant)
-          ]
-    ]
+pub loop-events-preserved-then-tag-eq-ADD_TOKEN : goal.loop-events-preserved-then-tag-eq-ADD_TOKEN
+loop-events-preserved-then-tag-eq-ADD_TOKEN c =
+    record {
+      same = next_token c.loop-events.events.now _ c.loop-events.behind _ _ (omega arith) (grind (arith, common_steps)) (omega arith) (search rules) c.loop-events.invariant.same;
+      fewer = search rules;
+    }
+
+pub loop-events-preserved-then-tag-eq-ADD_COMBINED_TOKEN : goal.loop-events-preserved-then-tag-eq-ADD_COMBINED_TOKEN
+loop-events-preserved-then-tag-eq-ADD_COMBINED_TOKEN c =
+    record {
+      same = next_name c.loop-events.events.now _ c.loop-events.behind _ _ (omega arith) (grind (arith, common_steps)) (search rules) (omega arith) (search rules) c.loop-events.invariant.same;
+      fewer = search rules;
+    }
+
+pub loop-events-preserved : goal.loop-events-preserved
+loop-events-preserved c =
+    record {
+      same = next_other c.loop-events.events.now _ c.loop-events.behind _ (omega arith) (grind (arith, common_steps)) (search rules) (search rules) (grind (arith, common_steps)) c.loop-events.invariant.same;
+      fewer = search rules;
+    }
 
 pub returns-clause-value : goal.returns-clause-value
-unfolding next_judged
-returns-clause-value c =
-    let e = events_end c.args.events.now c.loop-event.event (omega arith) in
-    rw e at c.loop-event.invariant
+returns-clause-value c = grind (arith, common_steps, next_none)

@@ -1,7 +1,14 @@
--- `next_judged`: from this event on is found what is found from the first.
-use Rattle.std.proofs.Common.{◌≡◌, drop}
+-- `next_judged`: among these events is found what is found among all.
+use Rattle.std.proofs.Common.{◌≡◌, ◌≤◌, length}
 use Rattle.labels.specs.Model.{shown, next_judged}
 use Rattle.labels.proofs.scan.next_judged.Given as goal
 
-abbrev pub invariant-loop-event : goal.invariant-loop-event
-invariant-loop-event l = next_judged (drop l.event (shown l.events)) l.event l.behind ≡ next_judged (drop l.fn.from (shown l.events)) l.fn.from 0
+abbrev pub invariant-loop-events : goal.invariant-loop-events
+invariant-loop-events l =
+    record {
+      same : next_judged (shown l.events) l.behind ≡ next_judged (shown l.fn.events) 0;
+      fewer : length l.events ≤ length l.fn.events;
+    }
+
+abbrev pub decreases-loop-events : goal.decreases-loop-events
+decreases-loop-events l = length l.events
