@@ -40,6 +40,11 @@ shown (tag ∷ []) = []
 shown (tag ∷ a ∷ []) = []
 shown (tag ∷ a ∷ b ∷ l) = event_of tag a ∷ shown l
 
+-- the same of rows
+unfoldable pub shown_rows : List (List ℕ) → List Event
+shown_rows [] = []
+shown_rows (row ∷ rows) = event_of (get_or row EVENT_TAG 0) (get_or row EVENT_ARGUMENT 0) ∷ shown_rows rows
+
 -- ---------------------------------------------------------------- places among the tokens
 
 abbrev pub seat : ℕ → ℕ → Seat
@@ -177,7 +182,7 @@ pub record Next : Type 0 where
 
 abbrev pub next_of : Option Found → Option Next
 next_of None = None
-next_of (Some f) = Some (record { kind = f.kind; behind = f.behind; after = shown f.after.now })
+next_of (Some f) = Some (record { kind = f.kind; behind = f.behind; after = shown_rows f.after.now })
 
 -- behind: how many tokens that are not trivia were taken
 unfoldable pub next_judged : List Event → ℕ → Option Next

@@ -1,9 +1,9 @@
 // From one judged node to the next. Most events lie outside such nodes, so this counts tokens alone: their places are
 // worked out once a node is found.
 ghost use Rattle.std.specs.Prelude.{◌≡◌, ◌<◌, IfSome, length};
-ghost use Rattle.labels.specs.Model.{shown, next_of, next_judged};
+ghost use Rattle.labels.specs.Model.{shown_rows, next_of, next_judged};
 
-use crate::event::is_start;
+use crate::event::{EventRow, is_start};
 use crate::node::is_judged;
 use layout::event_tag::{ADD_COMBINED_TOKEN, ADD_TOKEN};
 
@@ -14,17 +14,17 @@ pub struct Found<'a> {
     // How many raw tokens that are not trivia were taken on the way.
     pub behind: u32,
     // The events after it.
-    pub after: &'a [u32],
+    pub after: &'a [EventRow],
 }
 
 // The first one among these events.
-pub fn next_judged(events: &[u32]) -> Option<Found<'_>>
-    ensures value { next_of result ≡ next_judged (shown events.now) 0 }
+pub fn next_judged(events: &[EventRow]) -> Option<Found<'_>>
+    ensures value { next_of result ≡ next_judged (shown_rows events.now) 0 }
     ensures further { IfSome result (λ f. length f.after.now < length events.now) }
 {
     let mut events = events;
     let mut behind: u32 = 0;
-    while let [tag, argument, _, after @ ..] = events {
+    while let [[tag, argument, _], after @ ..] = events {
         if *tag == ADD_TOKEN {
             behind = behind.wrapping_add(1);
         } else if *tag == ADD_COMBINED_TOKEN {
