@@ -1,26 +1,29 @@
--- Event rows as events.
-use Rattle.std.proofs.Common.{◌≡◌, ℕ, zero, suc, ◌+◌, ◌*◌, ◌/◌, ◌≤◌, ◌<◌, List, [], ◌∷◌, length, get_or, take, drop, refl, sym, ap, ◌∙◌, arith}
-use Rattle.std.specs.Simd.{first_chunks}
-use Rattle.definitions.specs.Layout.{EVENT_ROW}
-use Rattle.labels.specs.Model.{event_of, shown, shown_rows}
+-- Event rows as events: the first of them and those after it.
+use Rattle.std.proofs.Common.{◌≡◌, ℕ, zero, suc, ◌+◌, ◌≤◌, ◌<◌, List, [], ◌∷◌, length, get_or, drop, refl, arith}
+use Rattle.labels.specs.Model.{event_of, shown}
 
-pub shown_first : (l : List (List ℕ)) → 0 < length l
-    → shown_rows l ≡ event_of (get_or (get_or l 0 []) 0 0) (get_or (get_or l 0 []) 1 0) ∷ shown_rows (drop 1 l)
-unfolding shown_rows
+pub shown_first : (l : List ℕ) → 3 ≤ length l → shown l ≡ event_of (get_or l 0 0) (get_or l 1 0) ∷ shown (drop 3 l)
+unfolding shown
 shown_first [] h = absurd (omega arith)
-shown_first (row ∷ l) h = refl
+shown_first (t ∷ []) h = absurd (omega arith)
+shown_first (t ∷ a ∷ []) h = absurd (omega arith)
+shown_first (t ∷ a ∷ b ∷ l) h = refl
 
-pub shown_none : (l : List (List ℕ)) → length l ≡ 0 → shown_rows l ≡ []
-unfolding shown_rows
+-- the row at i, and those after it
+pub shown_row : (l : List ℕ) (i : ℕ) → i + 3 ≤ length l
+    → shown (drop i l) ≡ event_of (get_or l i 0) (get_or l (i + 1) 0) ∷ shown (drop (i + 3) l)
+shown_row l zero h = shown_first l (omega arith)
+shown_row [] (suc i) h = absurd (omega arith)
+shown_row (x ∷ l) (suc i) h =
+    let one : suc i + 1 ≡ suc (i + 1) = omega arith in
+    let three : suc i + 3 ≡ suc (i + 3) = omega arith in
+    let inside : i + 3 ≤ length l = omega arith in
+    rw (one, three) (shown_row l i inside)
+
+-- no whole row, no event
+pub shown_none : (l : List ℕ) → length l < 3 → shown l ≡ []
+unfolding shown
 shown_none [] h = refl
-shown_none (row ∷ l) h = absurd (omega arith)
-
--- the rows of a buffer say what its numbers do
-pub chunks_shown : (l : List ℕ) → shown_rows (first_chunks EVENT_ROW (length l / EVENT_ROW) l) ≡ shown l
-unfolding shown shown_rows
-chunks_shown [] = refl
-chunks_shown (t ∷ []) = refl
-chunks_shown (t ∷ a ∷ []) = refl
-chunks_shown (t ∷ a ∷ b ∷ l) =
-    let n : length (t ∷ a ∷ b ∷ l) / EVENT_ROW ≡ suc (length l / EVENT_ROW) = omega arith in
-    rw n (ap (event_of t a ∷◌) (chunks_shown l))
+shown_none (t ∷ []) h = refl
+shown_none (t ∷ a ∷ []) h = refl
+shown_none (t ∷ a ∷ b ∷ l) h = absurd (omega arith)

@@ -1,11 +1,11 @@
 -- The turns of the loop from one judged node to the next.
-use Rattle.std.proofs.Common.{◌≡◌, ℕ, ◌+◌, ◌≤◌, ◌<◌, Bool, true, false, cond, ◌&&◌, ◌||◌, Option, None, Some, List, [], ◌∷◌, eqb, length, get_or, drop, refl, sym, ◌∙◌}
+use Rattle.std.proofs.Common.{◌≡◌, ℕ, ◌+◌, ◌≤◌, ◌<◌, Bool, true, false, cond, ◌&&◌, ◌||◌, Option, None, Some, List, ◌∷◌, eqb, length, get_or, drop, refl, sym, ◌∙◌, arith, length-drop}
 use Rattle.basics.specs.Word.{low}
 use Rattle.definitions.specs.Layout.{START_NODE, ADD_TOKEN, ADD_COMBINED_TOKEN, FINISH_NODE, LINKED_START_NODE}
 use Rattle.labels.specs.declared.event.Event.{Event}
 use Rattle.labels.specs.declared.event.Event.TheVariants.{Start, Token as AddToken, Name, Finish, Other}
-use Rattle.labels.specs.Model.{judged_kind, shown_rows, Next, next_judged}
-use Rattle.labels.proofs.EventRows.{shown_first, shown_none}
+use Rattle.labels.specs.Model.{judged_kind, shown, Next, next_judged}
+use Rattle.labels.proofs.EventRows.{shown_row, shown_none}
 
 abbrev next : ℕ → ℕ → List Event → Next
 next k b es = record { kind = k; behind = b; after = es }
@@ -34,37 +34,41 @@ turn false false false false a es b = by (judged_kind a)
     by true = refl
     by false = refl
 
-next_first : (l : List (List ℕ)) (b : ℕ) → 0 < length l
-    → next_judged (shown_rows l) b
-    ≡ cond (eqb (get_or (get_or l 0 []) 0 0) ADD_TOKEN) (next_judged (shown_rows (drop 1 l)) (low (b + 1)))
-    (cond (eqb (get_or (get_or l 0 []) 0 0) ADD_COMBINED_TOKEN) (next_judged (shown_rows (drop 1 l)) (low (b + get_or (get_or l 0 []) 1 0)))
-    (cond (judged_kind (get_or (get_or l 0 []) 1 0) && (eqb (get_or (get_or l 0 []) 0 0) START_NODE || eqb (get_or (get_or l 0 []) 0 0) LINKED_START_NODE))
-    (Some (next (get_or (get_or l 0 []) 1 0) b (shown_rows (drop 1 l)))) (next_judged (shown_rows (drop 1 l)) b)))
-next_first l b h =
-    rw (shown_first l h)
-    (turn (eqb (get_or (get_or l 0 []) 0 0) ADD_TOKEN) (eqb (get_or (get_or l 0 []) 0 0) ADD_COMBINED_TOKEN)
-    (eqb (get_or (get_or l 0 []) 0 0) START_NODE || eqb (get_or (get_or l 0 []) 0 0) LINKED_START_NODE) (eqb (get_or (get_or l 0 []) 0 0) FINISH_NODE) (get_or (get_or l 0 []) 1 0) (shown_rows (drop 1 l)) b)
+-- by the row at i
+next_row : (l : List ℕ) (i b : ℕ) → i + 3 ≤ length l
+    → next_judged (shown (drop i l)) b
+    ≡ cond (eqb (get_or l i 0) ADD_TOKEN) (next_judged (shown (drop (i + 3) l)) (low (b + 1)))
+    (cond (eqb (get_or l i 0) ADD_COMBINED_TOKEN) (next_judged (shown (drop (i + 3) l)) (low (b + get_or l (i + 1) 0)))
+    (cond (judged_kind (get_or l (i + 1) 0) && (eqb (get_or l i 0) START_NODE || eqb (get_or l i 0) LINKED_START_NODE))
+    (Some (next (get_or l (i + 1) 0) b (shown (drop (i + 3) l)))) (next_judged (shown (drop (i + 3) l)) b)))
+next_row l i b h =
+    rw (shown_row l i h)
+    (turn (eqb (get_or l i 0) ADD_TOKEN) (eqb (get_or l i 0) ADD_COMBINED_TOKEN)
+    (eqb (get_or l i 0) START_NODE || eqb (get_or l i 0) LINKED_START_NODE) (eqb (get_or l i 0) FINISH_NODE) (get_or l (i + 1) 0) (shown (drop (i + 3) l)) b)
 
-pub next_token : (l after : List (List ℕ)) (b b' : ℕ) (g : Option Next) → 0 < length l → after ≡ drop 1 l → get_or (get_or l 0 []) 0 0 ≡ ADD_TOKEN → b' ≡ low (b + 1)
-    → next_judged (shown_rows l) b ≡ g → next_judged (shown_rows after) b' ≡ g
-next_token l after b b' g h r t q p = rw (r, q) (sym (next_first l b h ∙ rw t) ∙ p)
+pub next_token : (l : List ℕ) (i b b' : ℕ) (g : Option Next) → i + 3 ≤ length l → get_or l i 0 ≡ ADD_TOKEN → b' ≡ low (b + 1)
+    → next_judged (shown (drop i l)) b ≡ g → next_judged (shown (drop (i + 3) l)) b' ≡ g
+next_token l i b b' g h t q p = rw q (sym (next_row l i b h ∙ rw t) ∙ p)
 
-pub next_name : (l after : List (List ℕ)) (b b' : ℕ) (g : Option Next) → 0 < length l → after ≡ drop 1 l → eqb (get_or (get_or l 0 []) 0 0) ADD_TOKEN ≡ false
-    → get_or (get_or l 0 []) 0 0 ≡ ADD_COMBINED_TOKEN → b' ≡ low (b + get_or (get_or l 0 []) 1 0) → next_judged (shown_rows l) b ≡ g → next_judged (shown_rows after) b' ≡ g
-next_name l after b b' g h r t n q p = rw (r, q) (sym (next_first l b h ∙ rw (t, n)) ∙ p)
+pub next_name : (l : List ℕ) (i b b' : ℕ) (g : Option Next) → i + 3 ≤ length l → eqb (get_or l i 0) ADD_TOKEN ≡ false
+    → get_or l i 0 ≡ ADD_COMBINED_TOKEN → b' ≡ low (b + get_or l (i + 1) 0)
+    → next_judged (shown (drop i l)) b ≡ g → next_judged (shown (drop (i + 3) l)) b' ≡ g
+next_name l i b b' g h t n q p = rw q (sym (next_row l i b h ∙ rw (t, n)) ∙ p)
 
 -- whether a judged node starts here
-abbrev pub starts : List (List ℕ) → Bool
-starts l = judged_kind (get_or (get_or l 0 []) 1 0) && (eqb (get_or (get_or l 0 []) 0 0) START_NODE || eqb (get_or (get_or l 0 []) 0 0) LINKED_START_NODE)
+abbrev pub starts : List ℕ → ℕ → Bool
+starts l i = judged_kind (get_or l (i + 1) 0) && (eqb (get_or l i 0) START_NODE || eqb (get_or l i 0) LINKED_START_NODE)
 
-pub next_other : (l after : List (List ℕ)) (b : ℕ) (g : Option Next) → 0 < length l → after ≡ drop 1 l → eqb (get_or (get_or l 0 []) 0 0) ADD_TOKEN ≡ false
-    → eqb (get_or (get_or l 0 []) 0 0) ADD_COMBINED_TOKEN ≡ false → starts l ≡ false → next_judged (shown_rows l) b ≡ g → next_judged (shown_rows after) b ≡ g
-next_other l after b g h r t n s p = rw r (sym (next_first l b h ∙ rw (t, n, s)) ∙ p)
+pub next_other : (l : List ℕ) (i b : ℕ) (g : Option Next) → i + 3 ≤ length l → eqb (get_or l i 0) ADD_TOKEN ≡ false
+    → eqb (get_or l i 0) ADD_COMBINED_TOKEN ≡ false → starts l i ≡ false
+    → next_judged (shown (drop i l)) b ≡ g → next_judged (shown (drop (i + 3) l)) b ≡ g
+next_other l i b g h t n s p = sym (next_row l i b h ∙ rw (t, n, s)) ∙ p
 
-pub next_found : (l after : List (List ℕ)) (b : ℕ) (g : Option Next) → 0 < length l → after ≡ drop 1 l → eqb (get_or (get_or l 0 []) 0 0) ADD_TOKEN ≡ false
-    → eqb (get_or (get_or l 0 []) 0 0) ADD_COMBINED_TOKEN ≡ false → starts l ≡ true → next_judged (shown_rows l) b ≡ g → Some (next (get_or (get_or l 0 []) 1 0) b (shown_rows after)) ≡ g
-next_found l after b g h r t n s p = rw r (sym (next_first l b h ∙ rw (t, n, s)) ∙ p)
+pub next_found : (l after : List ℕ) (i b : ℕ) (g : Option Next) → i + 3 ≤ length l → after ≡ drop (i + 3) l → eqb (get_or l i 0) ADD_TOKEN ≡ false
+    → eqb (get_or l i 0) ADD_COMBINED_TOKEN ≡ false → starts l i ≡ true
+    → next_judged (shown (drop i l)) b ≡ g → Some (next (get_or l (i + 1) 0) b (shown after)) ≡ g
+next_found l after i b g h r t n s p = rw r (sym (next_row l i b h ∙ rw (t, n, s)) ∙ p)
 
-pub next_none : (l : List (List ℕ)) (b : ℕ) → length l ≡ 0 → next_judged (shown_rows l) b ≡ None
+pub next_none : (l : List ℕ) (i b : ℕ) → length l < i + 3 → next_judged (shown (drop i l)) b ≡ None
 unfolding next_judged
-next_none l b h = rw (shown_none l h)
+next_none l i b h = let short : length (drop i l) < 3 = omega (arith, length-drop i l) in rw (shown_none (drop i l) short)

@@ -1,7 +1,6 @@
 -- The turns of the loop over the judged nodes: what `next_judged` finds is where `nodes_on` comes to. Once a report did
 -- not fit nothing changes.
-use Rattle.std.proofs.Common.{◌≡◌, ℕ, suc, ◌+◌, Bool, true, false, cond, ◌&&◌, Option, None, Some, Err, List, [], ◌∷◌, eqb, drop, refl, sym, ap, ◌∙◌, subst, arith}
-use Rattle.std.proofs.Math.Seq.{drop-drop}
+use Rattle.std.proofs.Common.{◌≡◌, ℕ, ◌+◌, Bool, true, false, cond, ◌&&◌, Option, None, Some, Err, List, [], ◌∷◌, eqb, drop, refl, sym, ap, ◌∙◌, subst}
 use Rattle.basics.specs.Word.{low}
 use Rattle.basics.proofs.Tests.{cond-all}
 use Rattle.definitions.specs.NodeKind as N

@@ -1,8 +1,8 @@
 -- What the code does, step by step, over the numbers of the lent buffers, whatever they are. Each definition is the
 -- model of the function whose contract cites it. No part of the exported promise.
-use Rattle.std.specs.Prelude.{ℕ, zero, suc, ◌+◌, ◌-◌, ◌*◌, Bool, true, false, cond, not, ◌&&◌, ◌||◌, Option, None, Some, Result, Ok, Err, List, [], ◌∷◌, leb, eqb, length, get_or, take, drop}
+use Rattle.std.specs.Prelude.{ℕ, zero, suc, ◌+◌, ◌-◌, Bool, true, false, cond, not, ◌&&◌, ◌||◌, Option, None, Some, Result, Ok, Err, List, [], ◌∷◌, leb, eqb, length, take, drop}
 use Rattle.basics.specs.Word.{low}
-use Rattle.definitions.specs.Layout.{EVENT_ROW, EVENT_TAG, EVENT_ARGUMENT, REPORT_ROW, OLD_SETTING}
+use Rattle.definitions.specs.Layout.{REPORT_ROW, OLD_SETTING}
 use Rattle.definitions.specs.Layout.{START_NODE, ADD_TOKEN, ADD_COMBINED_TOKEN, FINISH_NODE, LINKED_START_NODE}
 use Rattle.definitions.specs.TokenKind as K
 use Rattle.definitions.specs.NodeKind as N
@@ -39,11 +39,6 @@ shown [] = []
 shown (tag ∷ []) = []
 shown (tag ∷ a ∷ []) = []
 shown (tag ∷ a ∷ b ∷ l) = event_of tag a ∷ shown l
-
--- the same of rows
-unfoldable pub shown_rows : List (List ℕ) → List Event
-shown_rows [] = []
-shown_rows (row ∷ rows) = event_of (get_or row EVENT_TAG 0) (get_or row EVENT_ARGUMENT 0) ∷ shown_rows rows
 
 -- ---------------------------------------------------------------- places among the tokens
 
@@ -182,7 +177,7 @@ pub record Next : Type 0 where
 
 abbrev pub next_of : Option Found → Option Next
 next_of None = None
-next_of (Some f) = Some (record { kind = f.kind; behind = f.behind; after = shown_rows f.after.now })
+next_of (Some f) = Some (record { kind = f.kind; behind = f.behind; after = shown f.after.now })
 
 -- behind: how many tokens that are not trivia were taken
 unfoldable pub next_judged : List Event → ℕ → Option Next

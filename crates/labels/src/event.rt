@@ -6,10 +6,6 @@ ghost use Rattle.labels.specs.Model.{event_of};
 use layout::event_tag::{
     ADD_COMBINED_TOKEN, ADD_TOKEN, FINISH_NODE, LINKED_START_NODE, START_NODE,
 };
-use layout::row::EVENT_ROW;
-
-// Tag, argument, distance.
-pub type EventRow = [u32; EVENT_ROW];
 
 #[derive(Clone, Copy, PartialEq, Eq, Debug)]
 pub enum Event {

@@ -1,10 +1,9 @@
 // All judged nodes of a run, one after the other; no such node lies inside another (proofs/JudgedNodes.antt).
 ghost use Rattle.std.specs.Prelude.{◌≡◌, Ok};
 ghost use Rattle.definitions.specs.Token.{tokens_of};
-ghost use Rattle.labels.specs.Model.{out, shown_rows, seat, nodes_on, strict_on, names_on};
+ghost use Rattle.labels.specs.Model.{out, shown, seat, nodes_on, strict_on, names_on};
 ghost use Rattle.labels.specs.Promise.{Promise};
 
-use crate::event::EventRow;
 use crate::node::is_judged;
 use crate::report::Names;
 use crate::run::Run;
@@ -16,10 +15,10 @@ use token_rows::token::Seat;
 const START: Seat = Seat { at: 0, byte: 0 };
 
 impl Run<'_> {
-    fn all_nodes(&self, events: &[EventRow], reports: &mut [u32], written: usize) -> Names
+    fn all_nodes(&self, events: &[u32], reports: &mut [u32], written: usize) -> Names
         ensures { out result reports.new
             ≡ nodes_on self.now.bytes.now (tokens_of self.now.tokens.now) self.now.first
-            (shown_rows events.now) 0 (seat 0 0) (out (Ok written) reports.old) }
+            (shown events.now) 0 (seat 0 0) (out (Ok written) reports.old) }
     {
         let mut events = events;
         let mut seat = START;
@@ -33,16 +32,10 @@ impl Run<'_> {
     }
 
     // A root of this kind, and all below it. Where the root's own Names are judged there is no judged node below it.
-    fn judge_root(
-        &self,
-        kind: u32,
-        events: &[EventRow],
-        reports: &mut [u32],
-        written: usize,
-    ) -> Names
+    fn judge_root(&self, kind: u32, events: &[u32], reports: &mut [u32], written: usize) -> Names
         ensures { out result reports.new
             ≡ strict_on kind self.now.bytes.now (tokens_of self.now.tokens.now) self.now.first
-            (shown_rows events.now) (out (Ok written) reports.old) }
+            (shown events.now) (out (Ok written) reports.old) }
     {
         if is_judged(kind) {
             let seat = solid_after(self.tokens, START, 0);
@@ -80,6 +73,5 @@ pub fn report_names(
         tokens,
         first,
     };
-    let (events, _) = events.as_chunks();
     run.judge_root(root_kind, events, reports, written)
 }

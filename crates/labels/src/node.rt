@@ -2,9 +2,9 @@
 ghost use Rattle.std.specs.Prelude.{◌≡◌, ◌+◌, ◌<◌, Ok};
 ghost use Rattle.definitions.specs.Layout.{TWO_TO_64};
 ghost use Rattle.definitions.specs.Token.{tokens_of};
-ghost use Rattle.labels.specs.Model.{out, on, judged_kind, token_on, name_on, event_on, shown_rows, walk_at, inside_on, node_on};
+ghost use Rattle.labels.specs.Model.{out, on, judged_kind, token_on, name_on, event_on, shown, walk_at, inside_on, node_on};
 
-use crate::event::{Event, EventRow, event_of};
+use crate::event::{Event, event_of};
 use crate::report::{Names, push_report};
 use crate::rule::breaks_rule;
 use crate::run::Run;
@@ -74,10 +74,10 @@ impl Run<'_> {
     }
 
     // These events, up to the end of the node that they stand in.
-    fn inside(&self, events: &[EventRow], seat: Seat, reports: &mut [u32], written: usize) -> Walk
+    fn inside(&self, events: &[u32], seat: Seat, reports: &mut [u32], written: usize) -> Walk
         ensures { on result reports.new
             ≡ inside_on self.now.bytes.now (tokens_of self.now.tokens.now) self.now.first
-            (shown_rows events.now) (on (walk_at seat (Ok written)) reports.old) }
+            (shown events.now) (on (walk_at seat (Ok written)) reports.old) }
     {
         let mut walk = Walk {
             depth: 0,
@@ -86,7 +86,7 @@ impl Run<'_> {
             names: Ok(written),
         };
         let mut events = events;
-        while let [[tag, argument, _], after @ ..] = events {
+        while let [tag, argument, _, after @ ..] = events {
             let event = event_of(*tag, *argument);
             if event == Event::Finish && walk.depth == 0 {
                 break;
@@ -102,14 +102,14 @@ impl Run<'_> {
     pub fn judge_node(
         &self,
         kind: u32,
-        events: &[EventRow],
+        events: &[u32],
         seat: Seat,
         reports: &mut [u32],
         written: usize,
     ) -> Names
         ensures { out result reports.new
             ≡ node_on self.now.bytes.now (tokens_of self.now.tokens.now) self.now.first kind
-            (shown_rows events.now) seat (out (Ok written) reports.old) }
+            (shown events.now) seat (out (Ok written) reports.old) }
     {
         let walk = self.inside(events, seat, reports, written);
         if kind == DT_PHANDLE && walk.braced {

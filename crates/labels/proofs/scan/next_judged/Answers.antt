@@ -1,34 +1,29 @@
--- `next_judged`: among these events is found what is found among all.
-use Rattle.std.proofs.Common.{◌≡◌, false, length, eqb, get_or, drop, rules, arith}
+-- `next_judged`: from this row on is found what is found from the first.
+use Rattle.std.proofs.Common.{sym, ◌∙◌, rules, arith}
 use Rattle.std.proofs.lemmas.Grind.{common_steps}
-use Rattle.definitions.specs.Layout.{ADD_TOKEN, ADD_COMBINED_TOKEN}
 use Rattle.labels.proofs.NextJudged.{next_token, next_name, next_other, next_found, next_none}
 use Rattle.labels.proofs.scan.next_judged.Goals as goal
+use Rattle.labels.proofs.scan.next_judged.Goals.{then-tag-eq-ADD_TOKEN, else-tag-eq-ADD_TOKEN+then-tag-eq-ADD_COMBINED_TOKEN, else-tag-eq-ADD_TOKEN+else-tag-eq-ADD_COMBINED_TOKEN+else-is_judged}
 
 pub returns-then-is_start-clause-value : goal.returns-then-is_start-clause-value
 returns-then-is_start-clause-value c =
-    next_found c.loop-events.events.now _ c.loop-events.behind _ (omega arith) (grind (arith, common_steps)) (search rules) (search rules) (grind (arith, common_steps)) c.loop-events.invariant.same
+    next_found c.args.events.now _ c.loop-i.i _ _ (omega arith) (grind (arith, common_steps)) (search rules) (search rules) (grind (arith, common_steps)) c.loop-i.invariant.same
 
-pub loop-events-preserved-then-tag-eq-ADD_TOKEN : goal.loop-events-preserved-then-tag-eq-ADD_TOKEN
-loop-events-preserved-then-tag-eq-ADD_TOKEN c =
+pub loop-i-preserved : goal.loop-i-preserved
+loop-i-preserved c =
+    let events = c.args.events.now in
+    let i = c.loop-i.i in
+    let h = c.loop-i.invariant.same in
     record {
-      same = next_token c.loop-events.events.now _ c.loop-events.behind _ _ (omega arith) (grind (arith, common_steps)) (omega arith) (search rules) c.loop-events.invariant.same;
-      fewer = search rules;
-    }
-
-pub loop-events-preserved-then-tag-eq-ADD_COMBINED_TOKEN : goal.loop-events-preserved-then-tag-eq-ADD_COMBINED_TOKEN
-loop-events-preserved-then-tag-eq-ADD_COMBINED_TOKEN c =
-    record {
-      same = next_name c.loop-events.events.now _ c.loop-events.behind _ _ (omega arith) (grind (arith, common_steps)) (search rules) (omega arith) (search rules) c.loop-events.invariant.same;
-      fewer = search rules;
-    }
-
-pub loop-events-preserved : goal.loop-events-preserved
-loop-events-preserved c =
-    record {
-      same = next_other c.loop-events.events.now _ c.loop-events.behind _ (omega arith) (grind (arith, common_steps)) (search rules) (search rules) (grind (arith, common_steps)) c.loop-events.invariant.same;
-      fewer = search rules;
+      same =
+          elim c.if-tag-eq-ADD_TOKEN.branch [
+            | then-tag-eq-ADD_TOKEN w ↦ next_token events i _ _ _ (omega arith) (omega arith) (search rules) h
+            | else-tag-eq-ADD_TOKEN+then-tag-eq-ADD_COMBINED_TOKEN w ↦ next_name events i _ _ _ (omega arith) (search rules) (omega arith) (search rules) h
+            | else-tag-eq-ADD_TOKEN+else-tag-eq-ADD_COMBINED_TOKEN+else-is_judged w ↦
+                rw w.behind-is (next_other events i _ _ (omega arith) (search rules) (search rules) (grind (arith, common_steps)) h)
+          ];
+      whole = omega arith;
     }
 
 pub returns-clause-value : goal.returns-clause-value
-returns-clause-value c = grind (arith, common_steps, next_none)
+returns-clause-value c = sym (next_none c.args.events.now c.loop-i.i _ (omega arith)) ∙ c.loop-i.invariant.same

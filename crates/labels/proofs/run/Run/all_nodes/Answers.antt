@@ -1,7 +1,7 @@
 -- `all_nodes`: these events are judged as all are.
 use Rattle.std.proofs.Common.{◌≡◌, Err, sym, ◌∙◌, rules, arith}
 use Rattle.definitions.specs.Token.{tokens_of}
-use Rattle.labels.specs.Model.{shown_rows}
+use Rattle.labels.specs.Model.{shown}
 use Rattle.labels.proofs.NodeToNode.{nodes_again, nodes_none, nodes_refused}
 use Rattle.labels.proofs.run.Run.all_nodes.Goals as goal
 
@@ -12,7 +12,7 @@ returns-in_err-written c =
     rw refused
     (sym (nodes_refused run.bytes.now (tokens_of run.tokens.now) run.first _ 0 _ _ _)
     ∙ sym
-    (nodes_again run.bytes.now (tokens_of run.tokens.now) run.first (shown_rows c.loop-found.events.now) _ c.loop-found.seat _ _ _
+    (nodes_again run.bytes.now (tokens_of run.tokens.now) run.first (shown c.loop-found.events.now) _ c.loop-found.seat _ _ _
     c.in-Some.ensures.value c.solid_after-seat.ensures c.in_err-written.ensures)
     ∙ c.loop-found.invariant.judged)
 
@@ -22,7 +22,7 @@ loop-found-preserved c =
     record {
       judged =
           sym
-          (nodes_again run.bytes.now (tokens_of run.tokens.now) run.first (shown_rows c.loop-found.events.now) _ c.loop-found.seat _ _ _
+          (nodes_again run.bytes.now (tokens_of run.tokens.now) run.first (shown c.loop-found.events.now) _ c.loop-found.seat _ _ _
           c.in-Some.ensures.value c.solid_after-seat.ensures c.in_ok-written.ensures)
           ∙ c.loop-found.invariant.judged;
       kept = omega (arith, c.judge_node.auto);
@@ -31,5 +31,5 @@ loop-found-preserved c =
 pub returns : goal.returns
 returns c =
     let run = c.args.self.now in
-    sym (nodes_none run.bytes.now (tokens_of run.tokens.now) run.first (shown_rows c.loop-found.events.now) c.loop-found.seat _ c.in_default.ensures.value)
+    sym (nodes_none run.bytes.now (tokens_of run.tokens.now) run.first (shown c.loop-found.events.now) c.loop-found.seat _ c.in_default.ensures.value)
     ∙ c.loop-found.invariant.judged

@@ -1,15 +1,15 @@
 -- `all_nodes`: these events are judged as all are.
 use Rattle.std.proofs.Common.{◌≡◌, Ok, length}
 use Rattle.definitions.specs.Token.{tokens_of}
-use Rattle.labels.specs.Model.{out, shown_rows, nodes_on, seat}
+use Rattle.labels.specs.Model.{out, shown, nodes_on, seat}
 use Rattle.labels.proofs.run.Run.all_nodes.Given as goal
 
 abbrev pub invariant-loop-found : goal.invariant-loop-found
 invariant-loop-found l =
     record {
       judged :
-          nodes_on l.self.bytes.now (tokens_of l.self.tokens.now) l.self.first (shown_rows l.events) 0 l.seat (out (Ok l.written) l.reports)
-          ≡ nodes_on l.self.bytes.now (tokens_of l.self.tokens.now) l.self.first (shown_rows l.fn.events) 0 (seat 0 0) (out (Ok l.fn.written) l.initial.reports);
+          nodes_on l.self.bytes.now (tokens_of l.self.tokens.now) l.self.first (shown l.events) 0 l.seat (out (Ok l.written) l.reports)
+          ≡ nodes_on l.self.bytes.now (tokens_of l.self.tokens.now) l.self.first (shown l.fn.events) 0 (seat 0 0) (out (Ok l.fn.written) l.initial.reports);
       kept : length l.reports ≡ length l.initial.reports;
     }
 
