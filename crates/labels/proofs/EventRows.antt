@@ -1,29 +1,34 @@
--- Event rows as events: the first of them and those after it.
-use Rattle.std.proofs.Common.{◌≡◌, ℕ, zero, suc, ◌+◌, ◌≤◌, ◌<◌, List, [], ◌∷◌, length, get_or, drop, refl, arith}
-use Rattle.labels.specs.Model.{event_of, shown}
+-- Event rows as events: the events from a row on (like basics' TokenRows).
+use native.Mathlib.Omega.{arith}
+use Prim.Native.Nat.{ℕ, zero, suc, ◌+◌, ◌*◌, ◌/◌, ◌≤◌, ◌<◌}
+use mathlib.Core.Path.{◌≡◌, refl}
+use mathlib.Core.List.{List, [], ◌∷◌}
+use lib.ListN.{length, drop}
+use Rattle.definitions.specs.Layout.{EVENT_ROW, EVENT_TAG, EVENT_ARGUMENT}
+use Rattle.labels.specs.Model.{event_at, shown}
 
-pub shown_first : (l : List ℕ) → 3 ≤ length l → shown l ≡ event_of (get_or l 0 0) (get_or l 1 0) ∷ shown (drop 3 l)
+pub events_cons : (events : List ℕ) (i : ℕ) → i < length events / EVENT_ROW
+    → drop i (shown events) ≡ event_at events i ∷ drop (i + 1) (shown events)
 unfolding shown
-shown_first [] h = absurd (omega arith)
-shown_first (t ∷ []) h = absurd (omega arith)
-shown_first (t ∷ a ∷ []) h = absurd (omega arith)
-shown_first (t ∷ a ∷ b ∷ l) h = refl
+events_cons [] i h = absurd (omega (arith, h))
+events_cons (t ∷ []) i h = absurd (omega (arith, h))
+events_cons (t ∷ a ∷ []) i h = absurd (omega (arith, h))
+events_cons (t ∷ a ∷ b ∷ l) zero h = refl
+events_cons (t ∷ a ∷ b ∷ l) (suc i) h =
+    let e : suc i * EVENT_ROW + EVENT_TAG ≡ suc (suc (suc (i * EVENT_ROW + EVENT_TAG))) = omega arith in
+    let f : suc i * EVENT_ROW + EVENT_ARGUMENT ≡ suc (suc (suc (i * EVENT_ROW + EVENT_ARGUMENT))) = omega arith in
+    let g : suc i + 1 ≡ suc (i + 1) = omega arith in
+    let less : i < length l / EVENT_ROW = omega (arith, h) in
+    rw (e, f, g) (events_cons l i less)
 
--- the row at i, and those after it
-pub shown_row : (l : List ℕ) (i : ℕ) → i + 3 ≤ length l
-    → shown (drop i l) ≡ event_of (get_or l i 0) (get_or l (i + 1) 0) ∷ shown (drop (i + 3) l)
-shown_row l zero h = shown_first l (omega arith)
-shown_row [] (suc i) h = absurd (omega arith)
-shown_row (x ∷ l) (suc i) h =
-    let one : suc i + 1 ≡ suc (i + 1) = omega arith in
-    let three : suc i + 3 ≡ suc (i + 3) = omega arith in
-    let inside : i + 3 ≤ length l = omega arith in
-    rw (one, three) (shown_row l i inside)
-
--- no whole row, no event
-pub shown_none : (l : List ℕ) → length l < 3 → shown l ≡ []
+-- past the last row there are none
+pub events_end : (events : List ℕ) (i : ℕ) → length events / EVENT_ROW ≤ i → drop i (shown events) ≡ []
 unfolding shown
-shown_none [] h = refl
-shown_none (t ∷ []) h = refl
-shown_none (t ∷ a ∷ []) h = refl
-shown_none (t ∷ a ∷ b ∷ l) h = absurd (omega arith)
+events_end [] zero h = refl
+events_end [] (suc i) h = refl
+events_end (t ∷ []) zero h = refl
+events_end (t ∷ []) (suc i) h = refl
+events_end (t ∷ a ∷ []) zero h = refl
+events_end (t ∷ a ∷ []) (suc i) h = refl
+events_end (t ∷ a ∷ b ∷ l) zero h = absurd (omega (arith, h))
+events_end (t ∷ a ∷ b ∷ l) (suc i) h = events_end l i (omega (arith, h))

@@ -1,24 +1,26 @@
 -- The turns of the loop over the events inside a node.
-use Rattle.std.proofs.Common.{◌≡◌, ℕ, ◌+◌, ◌≤◌, ◌<◌, Bool, true, false, cond, ◌&&◌, List, eqb, length, get_or, drop, refl, ap, arith}
+use Rattle.std.proofs.Common.{◌≡◌, ℕ, ◌+◌, ◌/◌, ◌≤◌, ◌<◌, Bool, true, false, cond, ◌&&◌, List, eqb, length, drop, refl, ap, arith}
 use borrow.Author.Tests.{eqb-true}
+use Rattle.definitions.specs.Layout.{EVENT_ROW}
 use Rattle.definitions.specs.Token.{Token}
 use Rattle.labels.specs.declared.event.Event.{Event}
 use Rattle.labels.specs.declared.event.Event.TheVariants.{Start, Token as AddToken, Name, Finish, Other}
 use Rattle.labels.specs.declared.node.Walk.{Walk}
-use Rattle.labels.proofs.EventRows.{shown_first, shown_none}
-use Rattle.labels.specs.Model.{Out, out, On, on, at_seat, with_names, ends, event_of, shown, passed, solid_after, breaks, reported, name_on, event_on, inside_on}
+use Rattle.labels.specs.Model.{Out, out, On, on, at_seat, with_names, ends, event_at, shown, passed, solid_after, breaks, reported, name_on, event_on, inside_on}
+use Rattle.labels.proofs.EventRows.{events_cons, events_end}
 
--- e: the event that the first row says. b: whether it ends the node.
-pub inside_turn : (bytes : List ℕ) (ts : List Token) (first : ℕ) (l after : List ℕ) (e : Event) (b : Bool) (w : Walk) (reports : List ℕ)
-    → 3 ≤ length l → after ≡ drop 3 l → e ≡ event_of (get_or l 0 0) (get_or l 1 0) → ends e w.depth ≡ b
-    → inside_on bytes ts first (shown l) (on w reports)
-    ≡ cond b (on w reports) (inside_on bytes ts first (shown after) (event_on bytes ts first e (on w reports)))
+-- e: the event. b: whether it ends the node.
+pub inside_turn : (bytes : List ℕ) (ts : List Token) (first : ℕ) (events : List ℕ) (i : ℕ) (e : Event) (b : Bool) (w : Walk) (reports : List ℕ)
+    → i < length events / EVENT_ROW → e ≡ event_at events i → ends e w.depth ≡ b
+    → inside_on bytes ts first (drop i (shown events)) (on w reports)
+    ≡ cond b (on w reports) (inside_on bytes ts first (drop (i + 1) (shown events)) (event_on bytes ts first e (on w reports)))
 unfolding inside_on
-inside_turn bytes ts first l after e b w reports h r v t = rw (shown_first l h, ← v, t, r)
+inside_turn bytes ts first events i e b w reports h l t = rw (events_cons events i h, ← l, t)
 
-pub inside_end : (bytes : List ℕ) (ts : List Token) (first : ℕ) (l : List ℕ) (x : On) → length l < 3 → inside_on bytes ts first (shown l) x ≡ x
+pub inside_end : (bytes : List ℕ) (ts : List Token) (first : ℕ) (events : List ℕ) (i : ℕ) (x : On)
+    → length events / EVENT_ROW ≤ i → inside_on bytes ts first (drop i (shown events)) x ≡ x
 unfolding inside_on
-inside_end bytes ts first l x h = rw (shown_none l h)
+inside_end bytes ts first events i x h = rw (events_end events i h)
 
 -- ---------------------------------------------------------------- the end of the node
 

@@ -1,6 +1,7 @@
 -- The turns of the loop over the judged nodes: what `next_judged` finds is where `nodes_on` comes to. Once a report did
 -- not fit nothing changes.
-use Rattle.std.proofs.Common.{◌≡◌, ℕ, ◌+◌, Bool, true, false, cond, ◌&&◌, Option, None, Some, Err, List, [], ◌∷◌, eqb, drop, refl, sym, ap, ◌∙◌, subst}
+use Rattle.std.proofs.Common.{◌≡◌, ℕ, suc, ◌+◌, Bool, true, false, cond, ◌&&◌, Option, None, Some, Err, List, [], ◌∷◌, eqb, drop, refl, sym, ap, ◌∙◌, subst, arith}
+use Rattle.std.proofs.Math.Seq.{drop-drop}
 use Rattle.basics.specs.Word.{low}
 use Rattle.basics.proofs.Tests.{cond-all}
 use Rattle.definitions.specs.NodeKind as N
@@ -9,49 +10,70 @@ use Rattle.token_rows.specs.declared.token.Seat.{Seat}
 use Rattle.labels.specs.declared.event.Event.{Event}
 use Rattle.labels.specs.declared.event.Event.TheVariants.{Start, Token as AddToken, Name, Finish, Other}
 use Rattle.labels.specs.declared.report.NoReportRoom.{NoReportRoom}
-use Rattle.labels.specs.Model.{Out, out, On, on, at_seat, walk_at, with_names, ends, breaks, reported, token_on, name_on, event_on, inside_on, settled, passed, solid_after, node_on, judged_kind, Next, next_judged, nodes_on}
+use Rattle.labels.specs.declared.scan.Found.{Found}
+use Rattle.labels.specs.Model.{Out, out, On, on, at_seat, walk_at, with_names, ends, breaks, reported, token_on, name_on, event_on, inside_on, settled, passed, solid_after, node_on, judged_kind, found, next_judged, nodes_on}
+
+-- ---------------------------------------------------------------- what is found
 
 -- the events es after b tokens come to the same as es' after b'
 abbrev Same : List Event → ℕ → List Event → ℕ → Type 0
 Same es b es' b' = (bytes : List ℕ) (ts : List Token) (first : ℕ) (p : Seat) (x : Out)
     → nodes_on bytes ts first es b p x ≡ nodes_on bytes ts first es' b' p x
 
--- they come to the same as the judged node that is found and the events after it; or no node is judged
-abbrev Reached : List Event → ℕ → Option Next → Type 0
-Reached es behind None = Same es behind [] 0
-Reached es behind (Some n) = (judged_kind n.kind ≡ true) × Same es behind (Start n.kind ∷ n.after) n.behind
+-- a judged node starts at the event found; r: none of these is one
+record Starts (es : List Event) (i behind : ℕ) (f : Found) : Type 0 where
+  skipped : ℕ
+  event : f.event ≡ i + skipped
+  judged : judged_kind f.kind ≡ true
+  same : Same es behind (Start f.kind ∷ drop (suc skipped) es) f.behind
 
-further : (e : Event) (es : List Event) (behind b : ℕ) (r : Option Next) → Same (e ∷ es) behind es b → Reached es b r → Reached (e ∷ es) behind r
-further e es behind b None s r = λ bytes ts first p x. s bytes ts first p x ∙ r bytes ts first p x
-further e es behind b (Some n) s (j, r) = (j, λ bytes ts first p x. s bytes ts first p x ∙ r bytes ts first p x)
+abbrev Reached : List Event → ℕ → ℕ → Option Found → Type 0
+Reached es i behind None = Same es behind [] 0
+Reached es i behind (Some f) = Starts es i behind f
 
-reached : (es : List Event) (behind : ℕ) → Reached es behind (next_judged es behind)
+further : (e : Event) (es : List Event) (i behind b : ℕ) (r : Option Found) → Same (e ∷ es) behind es b → Reached es (i + 1) b r
+    → Reached (e ∷ es) i behind r
+further e es i behind b None s r = λ bytes ts first p x. s bytes ts first p x ∙ r bytes ts first p x
+further e es i behind b (Some f) s r =
+    record {
+      skipped = suc r.skipped;
+      event = omega (arith, r.event);
+      judged = r.judged;
+      same = λ bytes ts first p x. s bytes ts first p x ∙ r.same bytes ts first p x;
+    }
+
+reached : (es : List Event) (i behind : ℕ) → Reached es i behind (next_judged es i behind)
 unfolding next_judged nodes_on
-reached [] behind = λ bytes ts first p x. refl
-reached (Start k ∷ es) behind = by (judged_kind k) refl (reached es behind)
+reached [] i behind = λ bytes ts first p x. refl
+reached (Start k ∷ es) i behind = by (judged_kind k) refl (reached es (i + 1) behind)
   where
-    by : (b : Bool) → judged_kind k ≡ b → Reached es behind (next_judged es behind)
-        → Reached (Start k ∷ es) behind (cond b (Some (record { kind = k; behind = behind; after = es })) (next_judged es behind))
-    by true e r = (e, λ bytes ts first p x. refl)
-    by false e r = further (Start k) es behind _ _ (λ bytes ts first p x. rw e) r
-reached (AddToken ∷ es) behind = further AddToken es behind _ _ (λ bytes ts first p x. refl) (reached es (low (behind + 1)))
-reached (Name n ∷ es) behind = further (Name n) es behind _ _ (λ bytes ts first p x. refl) (reached es (low (behind + n)))
-reached (Finish ∷ es) behind = further Finish es behind _ _ (λ bytes ts first p x. refl) (reached es behind)
-reached (Other ∷ es) behind = further Other es behind _ _ (λ bytes ts first p x. refl) (reached es behind)
+    by : (b : Bool) → judged_kind k ≡ b → Reached es (i + 1) behind (next_judged es (i + 1) behind)
+        → Reached (Start k ∷ es) i behind (cond b (Some (found i k behind)) (next_judged es (i + 1) behind))
+    by true e r = record { skipped = 0; event = omega arith; judged = e; same = λ bytes ts first p x. refl }
+    by false e r = further (Start k) es i behind _ _ (λ bytes ts first p x. rw e) r
+reached (AddToken ∷ es) i behind = further AddToken es i behind _ _ (λ bytes ts first p x. refl) (reached es (i + 1) (low (behind + 1)))
+reached (Name n ∷ es) i behind = further (Name n) es i behind _ _ (λ bytes ts first p x. refl) (reached es (i + 1) (low (behind + n)))
+reached (Finish ∷ es) i behind = further Finish es i behind _ _ (λ bytes ts first p x. refl) (reached es (i + 1) behind)
+reached (Other ∷ es) i behind = further Other es i behind _ _ (λ bytes ts first p x. refl) (reached es (i + 1) behind)
 
--- n: what was found. q: the place of its first token. y: what has become of the reports.
-pub nodes_again : (bytes : List ℕ) (ts : List Token) (first : ℕ) (es : List Event) (n : Next) (p q : Seat) (x y : Out)
-    → Some n ≡ next_judged es 0 → q ≡ solid_after n.behind ts p → y ≡ node_on bytes ts first n.kind n.after q x
-    → nodes_on bytes ts first es 0 p x ≡ nodes_on bytes ts first n.after 0 q y
-unfolding nodes_on
-nodes_again bytes ts first es n p q x y e t d =
-    let s : Reached es 0 (Some n) = subst (Reached es 0) (sym e) (reached es 0) in
-    rw (d, t) (s.1 bytes ts first p x ∙ rw s.0)
+-- ---------------------------------------------------------------- the turns
 
-pub nodes_none : (bytes : List ℕ) (ts : List Token) (first : ℕ) (es : List Event) (p : Seat) (x : Out)
-    → None ≡ next_judged es 0 → nodes_on bytes ts first es 0 p x ≡ x
+-- f: what was found. q: the place of its first token. y: what has become of the reports.
+pub nodes_again : (bytes : List ℕ) (ts : List Token) (first : ℕ) (l : List Event) (i : ℕ) (f : Found) (p q : Seat) (x y : Out)
+    → Some f ≡ next_judged (drop i l) i 0 → q ≡ solid_after f.behind ts p → y ≡ node_on bytes ts first f.kind (drop (f.event + 1) l) q x
+    → nodes_on bytes ts first (drop i l) 0 p x ≡ nodes_on bytes ts first (drop (f.event + 1) l) 0 q y
 unfolding nodes_on
-nodes_none bytes ts first es p x e = let s : Same es 0 [] 0 = subst (Reached es 0) (sym e) (reached es 0) in s bytes ts first p x
+nodes_again bytes ts first l i f p q x y e t n =
+    let s : Starts (drop i l) i 0 f = subst (Reached (drop i l) i 0) (sym e) (reached (drop i l) i 0) in
+    let rest : drop (suc s.skipped) (drop i l) ≡ drop (f.event + 1) l = drop-drop (suc s.skipped) i l ∙ ap (λ k. drop k l) (omega (arith, s.event)) in
+    rw (n, t) (s.same bytes ts first p x ∙ rw (s.judged, rest))
+
+pub nodes_none : (bytes : List ℕ) (ts : List Token) (first : ℕ) (l : List Event) (i : ℕ) (p : Seat) (x : Out)
+    → None ≡ next_judged (drop i l) i 0 → nodes_on bytes ts first (drop i l) 0 p x ≡ x
+unfolding nodes_on
+nodes_none bytes ts first l i p x e =
+    let s : Same (drop i l) 0 [] 0 = subst (Reached (drop i l) i 0) (sym e) (reached (drop i l) i 0) in
+    s bytes ts first p x
 
 -- ---------------------------------------------------------------- once a report did not fit
 

@@ -1,8 +1,8 @@
 -- What the code does, step by step, over the numbers of the lent buffers, whatever they are. Each definition is the
 -- model of the function whose contract cites it. No part of the exported promise.
-use Rattle.std.specs.Prelude.{ℕ, zero, suc, ◌+◌, ◌-◌, Bool, true, false, cond, not, ◌&&◌, ◌||◌, Option, None, Some, Result, Ok, Err, List, [], ◌∷◌, leb, eqb, length, take, drop}
+use Rattle.std.specs.Prelude.{ℕ, zero, suc, ◌+◌, ◌-◌, ◌*◌, Bool, true, false, cond, not, ◌&&◌, ◌||◌, Option, None, Some, Result, Ok, Err, List, [], ◌∷◌, leb, eqb, length, get_or, take, drop}
 use Rattle.basics.specs.Word.{low}
-use Rattle.definitions.specs.Layout.{REPORT_ROW, OLD_SETTING}
+use Rattle.definitions.specs.Layout.{EVENT_ROW, EVENT_TAG, EVENT_ARGUMENT, REPORT_ROW, OLD_SETTING}
 use Rattle.definitions.specs.Layout.{START_NODE, ADD_TOKEN, ADD_COMBINED_TOKEN, FINISH_NODE, LINKED_START_NODE}
 use Rattle.definitions.specs.TokenKind as K
 use Rattle.definitions.specs.NodeKind as N
@@ -32,6 +32,9 @@ event_of tag argument =
     cond (eqb tag ADD_TOKEN) AddToken
     (cond (eqb tag ADD_COMBINED_TOKEN) (Name argument)
     (cond (eqb tag START_NODE || eqb tag LINKED_START_NODE) (Start argument) (cond (eqb tag FINISH_NODE) Finish Other)))
+
+abbrev pub event_at : List ℕ → ℕ → Event
+event_at events i = event_of (get_or events (i * EVENT_ROW + EVENT_TAG) 0) (get_or events (i * EVENT_ROW + EVENT_ARGUMENT) 0)
 
 -- the events that rows say; numbers that make no whole row say none
 unfoldable pub shown : List ℕ → List Event
@@ -169,25 +172,17 @@ node_on bytes ts first kind es p (out s reports) = settled kind s (inside_on byt
 
 -- ---------------------------------------------------------------- from node to node
 
--- the start of a judged node: its kind, how many tokens that are not trivia were taken before it, and the events after it
-pub record Next : Type 0 where
-  pub kind : ℕ
-  pub behind : ℕ
-  pub after : List Event
+abbrev pub found : ℕ → ℕ → ℕ → Found
+found i kind behind = record { event = i; kind = kind; behind = behind }
 
-abbrev pub next_of : Option Found → Option Next
-next_of None = None
-next_of (Some f) = Some (record { kind = f.kind; behind = f.behind; after = shown f.after.now })
-
--- behind: how many tokens that are not trivia were taken
-unfoldable pub next_judged : List Event → ℕ → Option Next
-next_judged [] behind = None
-next_judged (Start k ∷ es) behind =
-    let later = next_judged es behind in cond (judged_kind k) (Some (record { kind = k; behind = behind; after = es })) later
-next_judged (AddToken ∷ es) behind = next_judged es (low (behind + 1))
-next_judged (Name n ∷ es) behind = next_judged es (low (behind + n))
-next_judged (Finish ∷ es) behind = next_judged es behind
-next_judged (Other ∷ es) behind = next_judged es behind
+-- i: the first of these events. behind: how many tokens that are not trivia were taken.
+unfoldable pub next_judged : List Event → ℕ → ℕ → Option Found
+next_judged [] i behind = None
+next_judged (Start k ∷ es) i behind = let later = next_judged es (i + 1) behind in cond (judged_kind k) (Some (found i k behind)) later
+next_judged (AddToken ∷ es) i behind = next_judged es (i + 1) (low (behind + 1))
+next_judged (Name n ∷ es) i behind = next_judged es (i + 1) (low (behind + n))
+next_judged (Finish ∷ es) i behind = next_judged es (i + 1) behind
+next_judged (Other ∷ es) i behind = next_judged es (i + 1) behind
 
 -- p: the place from which `behind` counts
 unfoldable pub nodes_on : List ℕ → List Token → ℕ → List Event → ℕ → Seat → Out → Out

@@ -1,11 +1,12 @@
 // What an event row says, as far as Names and their places go.
-ghost use Rattle.std.specs.Prelude.{◌≡◌, ◌||◌, ◌==◌};
-ghost use Rattle.definitions.specs.Layout.{START_NODE, LINKED_START_NODE};
-ghost use Rattle.labels.specs.Model.{event_of};
+ghost use Rattle.std.specs.Prelude.{◌≡◌, ◌||◌, ◌==◌, ◌/◌, ◌<◌, length};
+ghost use Rattle.definitions.specs.Layout.{EVENT_ROW, START_NODE, LINKED_START_NODE};
+ghost use Rattle.labels.specs.Model.{event_of, event_at};
 
 use layout::event_tag::{
     ADD_COMBINED_TOKEN, ADD_TOKEN, FINISH_NODE, LINKED_START_NODE, START_NODE,
 };
+use layout::row::{EVENT_ARGUMENT, EVENT_ROW, EVENT_TAG};
 
 #[derive(Clone, Copy, PartialEq, Eq, Debug)]
 pub enum Event {
@@ -24,7 +25,7 @@ pub fn is_start(tag: u32) -> bool
     tag == START_NODE || tag == LINKED_START_NODE
 }
 
-pub fn event_of(tag: u32, argument: u32) -> Event
+fn event_of(tag: u32, argument: u32) -> Event
     ensures { result ≡ event_of tag argument }
 {
     match tag {
@@ -34,4 +35,12 @@ pub fn event_of(tag: u32, argument: u32) -> Event
         FINISH_NODE => Event::Finish,
         _ => Event::Other,
     }
+}
+
+pub fn event_at(events: &[u32], i: usize) -> Event
+    requires { i < length events.now / EVENT_ROW }
+    ensures { result ≡ event_at events.now i }
+{
+    let row = i * EVENT_ROW;
+    event_of(events[row + EVENT_TAG], events[row + EVENT_ARGUMENT])
 }

@@ -15,33 +15,33 @@ use token_rows::token::Seat;
 const START: Seat = Seat { at: 0, byte: 0 };
 
 impl Run<'_> {
-    fn all_nodes(&self, events: &[u32], reports: &mut [u32], written: usize) -> Names
+    fn all_nodes(&self, reports: &mut [u32], written: usize) -> Names
         ensures { out result reports.new
             ≡ nodes_on self.now.bytes.now (tokens_of self.now.tokens.now) self.now.first
-            (shown events.now) 0 (seat 0 0) (out (Ok written) reports.old) }
+            (shown self.now.events.now) 0 (seat 0 0) (out (Ok written) reports.old) }
     {
-        let mut events = events;
-        let mut seat = START;
         let mut written = written;
-        while let Some(found) = next_judged(events) {
-            events = found.after;
+        let mut from = 0;
+        let mut seat = START;
+        while let Some(found) = next_judged(self.events, from) {
             seat = solid_after(self.tokens, seat, found.behind as usize);
-            written = self.judge_node(found.kind, events, seat, reports, written)?;
+            from = found.event + 1;
+            written = self.judge_node(found.kind, from, seat, reports, written)?;
         }
         Ok(written)
     }
 
     // A root of this kind, and all below it. Where the root's own Names are judged there is no judged node below it.
-    fn judge_root(&self, kind: u32, events: &[u32], reports: &mut [u32], written: usize) -> Names
+    fn judge_root(&self, kind: u32, reports: &mut [u32], written: usize) -> Names
         ensures { out result reports.new
             ≡ strict_on kind self.now.bytes.now (tokens_of self.now.tokens.now) self.now.first
-            (shown events.now) (out (Ok written) reports.old) }
+            (shown self.now.events.now) (out (Ok written) reports.old) }
     {
         if is_judged(kind) {
             let seat = solid_after(self.tokens, START, 0);
-            self.judge_node(kind, events, seat, reports, written)
+            self.judge_node(kind, 0, seat, reports, written)
         } else {
-            self.all_nodes(events, reports, written)
+            self.all_nodes(reports, written)
         }
     }
 }
@@ -68,10 +68,11 @@ pub fn report_names(
     if setting == OLD {
         return Ok(written);
     }
-    let run = Run {
+    Run {
         bytes,
         tokens,
+        events,
         first,
-    };
-    run.judge_root(root_kind, events, reports, written)
+    }
+    .judge_root(root_kind, reports, written)
 }

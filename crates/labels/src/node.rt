@@ -1,15 +1,16 @@
 // The events inside a node whose Names are judged.
-ghost use Rattle.std.specs.Prelude.{◌≡◌, ◌+◌, ◌<◌, Ok};
+ghost use Rattle.std.specs.Prelude.{◌≡◌, ◌+◌, ◌<◌, Ok, drop};
 ghost use Rattle.definitions.specs.Layout.{TWO_TO_64};
 ghost use Rattle.definitions.specs.Token.{tokens_of};
 ghost use Rattle.labels.specs.Model.{out, on, judged_kind, token_on, name_on, event_on, shown, walk_at, inside_on, node_on};
 
-use crate::event::{Event, event_of};
+use crate::event::{Event, event_at};
 use crate::report::{Names, push_report};
 use crate::rule::breaks_rule;
 use crate::run::Run;
 use crate::seat::{pass, solid_after};
 use layout::node_kind::{DT_LABEL, DT_PHANDLE};
+use layout::row::EVENT_ROW;
 use layout::token_kind::LCURLY;
 use token_rows::token::{Seat, is_at};
 
@@ -73,11 +74,11 @@ impl Run<'_> {
         }
     }
 
-    // These events, up to the end of the node that they stand in.
-    fn inside(&self, events: &[u32], seat: Seat, reports: &mut [u32], written: usize) -> Walk
+    // The events from one on, up to the end of the node that they stand in.
+    fn inside(&self, from: usize, seat: Seat, reports: &mut [u32], written: usize) -> Walk
         ensures { on result reports.new
             ≡ inside_on self.now.bytes.now (tokens_of self.now.tokens.now) self.now.first
-            (shown events.now) (on (walk_at seat (Ok written)) reports.old) }
+            (drop from (shown self.now.events.now)) (on (walk_at seat (Ok written)) reports.old) }
     {
         let mut walk = Walk {
             depth: 0,
@@ -85,33 +86,31 @@ impl Run<'_> {
             braced: false,
             names: Ok(written),
         };
-        let mut events = events;
-        while let [tag, argument, _, after @ ..] = events {
-            let event = event_of(*tag, *argument);
+        for i in from..self.events.len() / EVENT_ROW {
+            let event = event_at(self.events, i);
             if event == Event::Finish && walk.depth == 0 {
                 break;
             }
             self.one_event(&mut walk, event, reports);
-            events = after;
         }
         walk
     }
 
-    // A node of this kind, with the events after its start and its first token that is not trivia. A DtPhandle with an
-    // LCurly reports nothing: what was written for it is not counted.
+    // A node of this kind, whose events begin with `from` and whose first token that is not trivia is at `seat`. A
+    // DtPhandle with an LCurly reports nothing: what was written for it is not counted.
     pub fn judge_node(
         &self,
         kind: u32,
-        events: &[u32],
+        from: usize,
         seat: Seat,
         reports: &mut [u32],
         written: usize,
     ) -> Names
         ensures { out result reports.new
             ≡ node_on self.now.bytes.now (tokens_of self.now.tokens.now) self.now.first kind
-            (shown events.now) seat (out (Ok written) reports.old) }
+            (drop from (shown self.now.events.now)) seat (out (Ok written) reports.old) }
     {
-        let walk = self.inside(events, seat, reports, written);
+        let walk = self.inside(from, seat, reports, written);
         if kind == DT_PHANDLE && walk.braced {
             Ok(written)
         } else {

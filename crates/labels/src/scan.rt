@@ -1,7 +1,8 @@
 // From one judged node to the next. Most events lie outside such nodes, so this counts tokens alone: their places are
 // worked out once a node is found.
-ghost use Rattle.std.specs.Prelude.{◌≡◌, ◌<◌, IfSome, length};
-ghost use Rattle.labels.specs.Model.{shown, next_of, next_judged};
+ghost use Rattle.std.specs.Prelude.{◌≡◌, ◌/◌, ◌≤◌, ◌<◌, IfSome, length, drop};
+ghost use Rattle.definitions.specs.Layout.{EVENT_ROW};
+ghost use Rattle.labels.specs.Model.{shown, next_judged};
 
 use crate::event::is_start;
 use crate::node::is_judged;
@@ -10,22 +11,23 @@ use layout::row::{EVENT_ARGUMENT, EVENT_ROW};
 
 // The start of a judged node.
 #[derive(Clone, Copy)]
-pub struct Found<'a> {
+pub struct Found {
+    pub event: usize,
     pub kind: u32,
     // How many raw tokens that are not trivia were taken on the way.
     pub behind: u32,
-    // The events after it.
-    pub after: &'a [u32],
 }
 
-// The first one among these events. Each step of this loop counts: one index serves both for the row and for the end.
-pub fn next_judged(events: &[u32]) -> Option<Found<'_>>
-    ensures value { next_of result ≡ next_judged (shown events.now) 0 }
-    ensures further { IfSome result (λ f. length f.after.now < length events.now) }
+// The first one from an event on. This loop goes over all events: one index, of a row's first number, is all that it
+// counts up.
+pub fn next_judged(events: &[u32], from: usize) -> Option<Found>
+    requires { from ≤ length events.now / EVENT_ROW }
+    ensures value { result ≡ next_judged (drop from (shown events.now)) from 0 }
+    ensures further { IfSome result (λ f. (from ≤ f.event) × (f.event < length events.now / EVENT_ROW)) }
 {
     let end = events.len() / EVENT_ROW * EVENT_ROW;
+    let mut i = from * EVENT_ROW;
     let mut behind: u32 = 0;
-    let mut i = 0;
     while i < end {
         let tag = events[i];
         if tag == ADD_TOKEN {
@@ -35,11 +37,10 @@ pub fn next_judged(events: &[u32]) -> Option<Found<'_>>
             if tag == ADD_COMBINED_TOKEN {
                 behind = behind.wrapping_add(argument);
             } else if is_judged(argument) && is_start(tag) {
-                let after = &events[i + EVENT_ROW..];
                 return Some(Found {
+                    event: i / EVENT_ROW,
                     kind: argument,
                     behind,
-                    after,
                 });
             }
         }
