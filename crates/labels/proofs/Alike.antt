@@ -1,21 +1,13 @@
 -- Reports that are alike: as many numbers written, the same numbers up to there, the same that did not fit. What stands past the
 -- numbers written does not count: a DtPhandle that turns out to be braced leaves something there.
-use Prim.Native.Nat.{ℕ, ◌+◌, ◌-◌, ◌≤◌}
-use native.Mathlib.Omega.{arith}
-use mathlib.Core.Path.{◌≡◌, refl, ap, sym, ◌∙◌}
-use mathlib.Core.Bool.{Bool, true, false, cond}
-use mathlib.Core.List.{List, [], ◌∷◌, ◌++◌}
-use lib.Dec.{leb}
-use lib.ListN.{length, take, drop, length-append}
-use lib.Seq.{sets, sets-eq, length-sets, length-take-le, take_at, take-append-le, take-take}
-use borrow.Author.Tests.{leb-true}
+use Rattle.std.proofs.Common.{ℕ, ◌+◌, ◌-◌, ◌≤◌, arith, ◌≡◌, refl, ap, sym, ◌∙◌, Bool, true, false, cond, List, [], ◌∷◌, ◌++◌, leb, length, take, drop, length-append, length-take-le, take_at, take-take, leb-true, Ok, Err}
+use lib.Seq.{sets, sets-eq, length-sets, take-append-le}
 use Rattle.basics.specs.Word.{low}
 use Rattle.basics.proofs.Tests.{and_left, and_right}
 use Rattle.definitions.specs.Layout.{REPORT_ROW}
 use Rattle.definitions.specs.Token.{Token, byte_count}
 use Rattle.laws.proofs.NamesFound.{Back}
 use Rattle.machine.specs.Machine.{fits}
-use Rattle.std.specs.Prelude.{Ok, Err}
 use Rattle.layout.specs.Rows.{put_row}
 use Rattle.labels.specs.Model.{breaks, Names, no_room, name_row, put_name, reported}
 use Rattle.labels.proofs.Standing.{Rep, count, held, rep, File, pushed, emit, emits}

@@ -1,15 +1,8 @@
 -- The reports of some Names, pushed one after the other: all fit, and stand in the buffer as the definitions say, or
 -- the first that does not fit is refusal 7.
-use Prim.Native.Nat.{ℕ, zero, suc, ◌+◌, ◌-◌, ◌*◌, ◌≤◌}
-use native.Mathlib.Omega.{arith}
-use native.Mathlib.Nat.{mod-eq_of_lt}
-use mathlib.Core.Path.{◌≡◌, refl, ap, sym, ◌∙◌, subst}
-use mathlib.Core.Bool.{Bool, true, false, cond, not}
-use mathlib.Core.List.{List, [], ◌∷◌, ◌++◌, append_assoc}
-use lib.Dec.{leb}
-use lib.ListN.{length, take, drop, length-append}
-use lib.Seq.{sets-eq, take_at, drop-drop, drop-append-add}
-use borrow.Author.Tests.{le-leb, lt-leb}
+use Rattle.std.proofs.Common.{ℕ, zero, suc, ◌+◌, ◌-◌, ◌*◌, ◌≤◌, arith, mod-eq_of_lt, ◌≡◌, refl, ap, sym, ◌∙◌, subst, Bool, true, false, cond, not, List, [], ◌∷◌, ◌++◌, append_assoc, leb, length, take, drop, length-append, take_at, drop-drop, le-leb, Ok, Err}
+use lib.Seq.{sets-eq, drop-append-add}
+use borrow.Author.Tests.{lt-leb}
 use Rattle.basics.specs.Word.{low}
 use Rattle.basics.proofs.Flags.{flags}
 use Rattle.basics.proofs.Tests.{cond-all}
@@ -18,7 +11,6 @@ use Rattle.definitions.specs.Token.{Token, byte_count}
 use Rattle.definitions.specs.Refusal.{Refusal, no_report_room, Verdict, accepted, refused, place_of}
 use Rattle.definitions.specs.Strict.{NameAt, keeps_rule, breaking, name_numbers, names_fit}
 use Rattle.laws.proofs.NamesFound.{Back, forward, forwards}
-use Rattle.std.specs.Prelude.{Ok, Err}
 use Rattle.layout.specs.Rows.{put_row}
 use Rattle.labels.specs.declared.report.NoReportRoom.{NoReportRoom}
 use Rattle.labels.specs.Model.{breaks, no_room, name_row, put_name, reported}

@@ -1,6 +1,5 @@
 -- The turns of the loop over the events inside a node.
-use Rattle.std.proofs.Common.{◌≡◌, ℕ, ◌+◌, ◌/◌, ◌≤◌, ◌<◌, Bool, true, false, cond, ◌&&◌, List, eqb, length, drop, refl, ap, arith}
-use borrow.Author.Tests.{eqb-true}
+use Rattle.std.proofs.Common.{◌≡◌, ℕ, ◌+◌, ◌/◌, ◌≤◌, ◌<◌, Bool, true, false, cond, ◌&&◌, List, eqb, length, drop, refl, ap, arith, eqb-true}
 use Rattle.definitions.specs.Layout.{EVENT_ROW}
 use Rattle.definitions.specs.Token.{Token}
 use Rattle.labels.specs.declared.event.Event.{Event}

@@ -1,12 +1,5 @@
 -- What becomes of the events of a run: the promise.
-use Prim.Native.Nat.{ℕ, ◌+◌, ◌-◌, ◌*◌}
-use native.Mathlib.Omega.{arith}
-use mathlib.Core.Path.{◌≡◌, refl, ap, sym, ◌∙◌, subst}
-use mathlib.Core.Bool.{Bool, true, false, cond}
-use mathlib.Core.List.{List, [], ◌++◌, append_assoc, append-nil}
-use lib.Dec.{eqb}
-use lib.ListN.{length, take, drop}
-use lib.Seq.{length-take-le, take_at}
+use Rattle.std.proofs.Common.{ℕ, ◌+◌, ◌-◌, ◌*◌, arith, ◌≡◌, refl, ap, sym, ◌∙◌, subst, Bool, true, false, cond, List, [], ◌++◌, append_assoc, append-nil, eqb, length, take, drop, length-take-le, take_at, Ok}
 use Rattle.definitions.specs.Layout.{REPORT_ROW, OLD_SETTING}
 use Rattle.definitions.specs.Token.{Token, tokens_of, drop_trivia, byte_count}
 use Rattle.definitions.specs.Skeleton.{Skeleton}
@@ -23,7 +16,6 @@ use Rattle.laws.proofs.ReportNumbers.{name_numbers_length}
 use Rattle.sink.proofs.Runs.{entry_chained}
 use Rattle.token_rows.specs.declared.token.Seat.{Seat}
 use Rattle.labels.specs.declared.event.Event.{Event}
-use Rattle.std.specs.Prelude.{Ok}
 use Rattle.labels.specs.Model.{shown, seat, solid_after, Names, Out, out, judged_kind, node_on, nodes_on, strict_on, names_on}
 use Rattle.labels.specs.Promise.{Leaves, Follow, Stop, Named, Promise}
 use Rattle.labels.proofs.JudgedNodes.{entry_flat, entry_plain}

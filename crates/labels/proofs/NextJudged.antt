@@ -1,16 +1,9 @@
 -- The turns of the loop from one judged node to the next.
-use native.Mathlib.Omega.{arith}
-use Prim.Native.Nat.{ℕ, ◌+◌, ◌*◌, ◌/◌, ◌≤◌, ◌<◌}
-use mathlib.Core.Path.{◌≡◌, refl, sym, ◌∙◌, ap}
-use mathlib.Core.Bool.{Bool, true, false, cond, ◌&&◌, ◌||◌}
-use mathlib.Core.List.{List, ◌∷◌}
-use lib.Dec.{eqb}
-use lib.ListN.{length, get_or, drop}
+use Rattle.std.proofs.Common.{arith, ℕ, ◌+◌, ◌*◌, ◌/◌, ◌≤◌, ◌<◌, ◌≡◌, refl, sym, ◌∙◌, ap, Bool, true, false, cond, ◌&&◌, ◌||◌, List, ◌∷◌, eqb, length, get_or, drop, Option, None, Some}
 use Rattle.basics.specs.Word.{low}
 use Rattle.definitions.specs.Layout.{EVENT_ROW, EVENT_TAG, EVENT_ARGUMENT, START_NODE, ADD_TOKEN, ADD_COMBINED_TOKEN, FINISH_NODE, LINKED_START_NODE}
 use Rattle.labels.specs.declared.event.Event.{Event}
 use Rattle.labels.specs.declared.event.Event.TheVariants.{Start, Token as AddToken, Name, Finish, Other}
-use Rattle.std.specs.Prelude.{Option, None, Some}
 use Rattle.labels.specs.declared.scan.Found.{Found}
 use Rattle.labels.specs.Model.{judged_kind, event_of, shown, found, next_judged}
 use Rattle.labels.proofs.EventRows.{events_cons, events_end}

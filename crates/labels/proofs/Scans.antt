@@ -1,12 +1,6 @@
 -- From judged node to judged node over the events of a skeleton: one induction. Tokens on the way are counted, and the
 -- place is worked out from the count where a node is found; the Names that are reported are those that it holds.
-use Prim.Native.Nat.{ℕ, ◌+◌, ◌≤◌}
-use native.Mathlib.Omega.{arith}
-use native.Mathlib.Nat.{mod-eq_of_lt}
-use mathlib.Core.Path.{◌≡◌, refl, ap, sym, ◌∙◌, subst}
-use mathlib.Core.Bool.{Bool, true, false, cond, ◌||◌}
-use mathlib.Core.List.{List, ◌∷◌, ◌++◌, append_assoc}
-use lib.ListN.{length, drop}
+use Rattle.std.proofs.Common.{ℕ, ◌+◌, ◌≤◌, arith, mod-eq_of_lt, ◌≡◌, refl, ap, sym, ◌∙◌, subst, Bool, true, false, cond, ◌||◌, List, ◌∷◌, ◌++◌, append_assoc, length, drop}
 use Rattle.basics.specs.Word.{low}
 use Rattle.definitions.specs.Token.{Token, drop_trivia, past}
 use Rattle.definitions.specs.Skeleton.{Skeleton, done, token, name, node, ignored, report, over}

@@ -1,13 +1,5 @@
 -- Places among the tokens of a file, by what is left of them, and the reports written so far.
-use Prim.Native.Nat.{ℕ, zero, suc, ◌+◌, ◌-◌, ◌≤◌, ◌<◌}
-use native.Mathlib.Omega.{arith}
-use native.Mathlib.Nat.{mod-eq_of_lt}
-use mathlib.Core.Path.{◌≡◌, refl, ap, sym, ◌∙◌}
-use mathlib.Core.Bool.{Bool, true, false, cond}
-use mathlib.Core.List.{List, [], ◌∷◌, ◌++◌, append_assoc}
-use lib.Dec.{eqb}
-use lib.ListN.{length, drop, length-append, take, take-append-drop}
-use lib.Seq.{drop_at}
+use Rattle.std.proofs.Common.{ℕ, zero, suc, ◌+◌, ◌-◌, ◌≤◌, ◌<◌, arith, mod-eq_of_lt, ◌≡◌, refl, ap, sym, ◌∙◌, Bool, true, false, cond, List, [], ◌∷◌, ◌++◌, append_assoc, eqb, length, drop, length-append, take, take-append-drop, drop_at, Ok, Err}
 use Rattle.basics.specs.Word.{low}
 use Rattle.basics.proofs.Tests.{eqb_swap}
 use Rattle.definitions.specs.Layout.{TWO_TO_32}
@@ -19,7 +11,6 @@ use Rattle.laws.proofs.Skeleton.{bytes_append}
 use Rattle.laws.proofs.Trivia.{drop_twice}
 use Rattle.laws.proofs.NamesFound.{Back, first_curly}
 use Rattle.token_rows.specs.declared.token.Seat.{Seat}
-use Rattle.std.specs.Prelude.{Ok, Err}
 use Rattle.labels.specs.Model.{breaks, next_seat, passed, past_solid, first_solid, solid_after, Names, Out, out, reported}
 use Rattle.labels.proofs.Taken.{Firsts}
 
