@@ -1,6 +1,7 @@
 -- Reports that are alike: as many numbers written, the same numbers up to there, the same that did not fit. What stands past the
 -- numbers written does not count: a DtPhandle that turns out to be braced leaves something there.
-use Rattle.std.proofs.Common.{ℕ, ◌+◌, ◌-◌, ◌≤◌, arith, ◌≡◌, refl, ap, sym, ◌∙◌, Bool, true, false, cond, List, [], ◌∷◌, ◌++◌, leb, length, take, drop, length-append, length-take-le, take_at, take-take, leb-true, Ok, Err}
+use Rattle.std.proofs.Common.{ℕ, ◌+◌, ◌-◌, ◌≤◌, arith, ◌≡◌, refl, ap, sym, ◌∙◌, Bool, true, false, cond, List, [], ◌∷◌, ◌++◌, leb, length, take, drop, length-append, length-take-le, take_at, take-take, leb-true, Ok, Err, subst}
+use mathlib.Core.Bool.{false≢true}
 use lib.Seq.{sets, sets-eq, length-sets, take-append-le}
 use Rattle.basics.specs.Word.{low}
 use Rattle.basics.proofs.Tests.{and_left, and_right}
@@ -21,7 +22,7 @@ pub alike_self : (r : Rep) → Alike r r
 alike_self r = record { names = refl; size = refl; rows = refl }
 
 pub alike_by : (r q : Rep) → r ≡ q → Alike r q
-alike_by r q e = mathlib.Core.Path.subst (Alike r) e (alike_self r)
+alike_by r q e = subst (Alike r) e (alike_self r)
 
 pub alike_then : (r q p : Rep) → Alike r q → Alike q p → Alike r p
 alike_then r q p a b =
@@ -93,7 +94,7 @@ module _ (F : File) where
   push_alike : (start end at : ℕ) (r q : Rep) → Alike r q → Alike (pushed F start end at r) (pushed F start end at q)
   unfolding pushed reported
   push_alike start end at r q a =
-      mathlib.Core.Path.subst (λ (s : Names). Alike (pushed F start end at r) (pushed F start end at (record { names = s; reports = Q }))) a.names
+      subst (λ (s : Names). Alike (pushed F start end at r) (pushed F start end at (record { names = s; reports = Q }))) a.names
       (go r.names a.rows)
     where
       R : List ℕ
@@ -132,8 +133,8 @@ module _ (F : File) where
           by : (b c : Bool) → fits (length R) w REPORT_ROW ≡ b → c ≡ b
               → Alike (rep (cond b (held (more w R)) (held (none w R)))) (rep (cond c (held (more w Q)) (held (none w Q))))
           by true true h f = both w same h
-          by true false h f = absurd (mathlib.Core.Bool.false≢true f)
-          by false true h f = absurd (mathlib.Core.Bool.false≢true (sym f))
+          by true false h f = absurd (false≢true f)
+          by false true h f = absurd (false≢true (sym f))
           by false false h f = record { names = refl; size = a.size; rows = same }
       go (Err e) same = record { names = refl; size = a.size; rows = same }
 

@@ -1,6 +1,7 @@
 -- The reports of some Names, pushed one after the other: all fit, and stand in the buffer as the definitions say, or
 -- the first that does not fit is refusal 7.
-use Rattle.std.proofs.Common.{ℕ, zero, suc, ◌+◌, ◌-◌, ◌*◌, ◌≤◌, arith, mod-eq_of_lt, ◌≡◌, refl, ap, sym, ◌∙◌, subst, Bool, true, false, cond, not, List, [], ◌∷◌, ◌++◌, append_assoc, leb, length, take, drop, length-append, take_at, drop-drop, le-leb, Ok, Err}
+use Rattle.std.proofs.Common.{ℕ, zero, suc, ◌+◌, ◌-◌, ◌*◌, ◌≤◌, arith, mod-eq_of_lt, ◌≡◌, refl, ap, sym, ◌∙◌, subst, Bool, true, false, cond, not, List, [], ◌∷◌, ◌++◌, append_assoc, leb, length, take, drop, length-append, take_at, drop-drop, le-leb, Ok, Err, length-take-le, take-append-drop}
+use mathlib.Core.Bool.{false≢true}
 use lib.Seq.{sets-eq, drop-append-add}
 use borrow.Author.Tests.{lt-leb}
 use Rattle.basics.specs.Word.{low}
@@ -36,10 +37,10 @@ unfolding breaking
 breaks_or bytes n l c e = go (keeps_rule (take (n.end - n.start) (drop n.start bytes))) c e
   where
     go : (k c : Bool) → not k ≡ c → cond k (breaking bytes l) (n ∷ breaking bytes l) ≡ cond c (n ∷ breaking bytes l) (breaking bytes l)
-    go true true e = absurd (mathlib.Core.Bool.false≢true e)
+    go true true e = absurd (false≢true e)
     go true false e = refl
     go false true e = refl
-    go false false e = absurd (mathlib.Core.Bool.false≢true (sym e))
+    go false false e = absurd (false≢true (sym e))
 
 verdict_number : Verdict → ℕ
 verdict_number accepted = 0
@@ -104,7 +105,7 @@ module _ (F : File) (covered : byte_count F.all ≡ length F.bytes) where
       let row : List ℕ = name_row n.start n.end n.first_token first in
       let R' : List ℕ = fitted n w R in
       let s : R' ≡ (take w R ++ row) ++ drop (w + REPORT_ROW) R = written_row n w R h in
-      let a : length (take w R ++ row) ≡ w + REPORT_ROW = length-append (take w R) row ∙ ap (λ k. k + REPORT_ROW) (lib.Seq.length-take-le w R (omega (arith, h))) in
+      let a : length (take w R ++ row) ≡ w + REPORT_ROW = length-append (take w R) row ∙ ap (λ k. k + REPORT_ROW) (length-take-le w R (omega (arith, h))) in
       let t : take (w + REPORT_ROW) R' ≡ take w R ++ row = ap (take (w + REPORT_ROW)) s ∙ take_at (take w R ++ row) (drop (w + REPORT_ROW) R) (w + REPORT_ROW) a in
       let k : ℕ = length l * REPORT_ROW in
       let d : drop (w + REPORT_ROW + k) R' ≡ drop (w + suc (length l) * REPORT_ROW) R =
@@ -172,7 +173,7 @@ module _ (F : File) (covered : byte_count F.all ≡ length F.bytes) where
       let z : w + 0 * REPORT_ROW ≡ w = omega arith in
       record {
         names = ap (λ (j : ℕ). Ok j) (sym z);
-        reports = sym (lib.ListN.take-append-drop w R) ∙ ap (λ k. take w R ++ drop k R) (sym z);
+        reports = sym (take-append-drop w R) ∙ ap (λ k. take w R ++ drop k R) (sym z);
       }
   all_follow (x ∷ l) room w R h f = go (test x) refl room h f (λ m v S g e. all_follow l m v S g e)
     where

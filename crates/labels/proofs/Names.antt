@@ -1,5 +1,5 @@
 -- What becomes of the events of a run: the promise.
-use Rattle.std.proofs.Common.{ℕ, ◌+◌, ◌-◌, ◌*◌, arith, ◌≡◌, refl, ap, sym, ◌∙◌, subst, Bool, true, false, cond, List, [], ◌++◌, append_assoc, append-nil, eqb, length, take, drop, length-take-le, take_at, Ok}
+use Rattle.std.proofs.Common.{ℕ, ◌+◌, ◌-◌, ◌*◌, arith, ◌≡◌, refl, ap, sym, ◌∙◌, subst, Bool, true, false, cond, List, [], ◌++◌, append_assoc, append-nil, eqb, length, take, drop, length-take-le, take_at, Ok, length-append}
 use Rattle.definitions.specs.Layout.{REPORT_ROW, OLD_SETTING}
 use Rattle.definitions.specs.Token.{Token, tokens_of, drop_trivia, byte_count}
 use Rattle.definitions.specs.Skeleton.{Skeleton}
@@ -145,7 +145,7 @@ module _ (e : Entry) (bytes tokens : List ℕ) (written first : ℕ) (reports : 
           let n : ℕ = written + length l * REPORT_ROW in
           let t : length (take written reports) ≡ written = length-take-le written reports (omega (arith, h.enough)) in
           let m : length (take written reports ++ name_numbers first l) ≡ n =
-          lib.ListN.length-append (take written reports) (name_numbers first l) ∙ (let z : length (name_numbers first l) ≡ REPORT_ROW * length l = name_numbers_length first l in omega arith) in
+          length-append (take written reports) (name_numbers first l) ∙ (let z : length (name_numbers first l) ≡ REPORT_ROW * length l = name_numbers_length first l in omega arith) in
           record {
             count = sym same.names ∙ a.names;
             rows =

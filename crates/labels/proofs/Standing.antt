@@ -1,7 +1,7 @@
 -- Places among the tokens of a file, by what is left of them, and the reports written so far.
 use Rattle.std.proofs.Common.{ℕ, zero, suc, ◌+◌, ◌-◌, ◌≤◌, ◌<◌, arith, mod-eq_of_lt, ◌≡◌, refl, ap, sym, ◌∙◌, Bool, true, false, cond, List, [], ◌∷◌, ◌++◌, append_assoc, eqb, length, drop, length-append, take, take-append-drop, drop_at, Ok, Err}
 use Rattle.basics.specs.Word.{low}
-use Rattle.basics.proofs.Tests.{eqb_swap}
+use Rattle.basics.proofs.Tests.{eqb_swap, cond-all}
 use Rattle.definitions.specs.Layout.{TWO_TO_32}
 use Rattle.definitions.specs.TokenKind as K
 use Rattle.definitions.specs.Token.{Token, seen, one_of, first_in, trivia, drop_trivia, past, byte_count}
@@ -87,7 +87,7 @@ pub solid_shorter : (ts : List Token) → length (drop_trivia ts) ≤ length ts
 unfolding drop_trivia
 solid_shorter [] = omega arith
 solid_shorter (t ∷ ts) = let h : length (drop_trivia ts) ≤ length ts = solid_shorter ts in
-    Rattle.basics.proofs.Tests.cond-all (λ (l : List Token). length l ≤ suc (length ts)) (trivia t) {x = drop_trivia ts} {y = t ∷ ts} (omega arith) (omega arith)
+    cond-all (λ (l : List Token). length l ≤ suc (length ts)) (trivia t) {x = drop_trivia ts} {y = t ∷ ts} (omega arith) (omega arith)
 
 -- ---------------------------------------------------------------- reports, and a file
 
@@ -156,7 +156,7 @@ module _ (F : File) where
   pub part_solid : (ts : List Token) → Part ts → Part (drop_trivia ts)
   unfolding drop_trivia
   part_solid [] h = h
-  part_solid (t ∷ ts) h = Rattle.basics.proofs.Tests.cond-all Part (trivia t) {x = drop_trivia ts} {y = t ∷ ts} (part_solid ts (part_next t ts h)) h
+  part_solid (t ∷ ts) h = cond-all Part (trivia t) {x = drop_trivia ts} {y = t ∷ ts} (part_solid ts (part_next t ts h)) h
 
   pub part_after : (o : Skeleton) (ts : List Token) → Part ts → Part (after o ts)
   unfolding after
@@ -221,7 +221,7 @@ module _ (F : File) where
   part_beyond zero ts h = h
   part_beyond (suc n) [] h = h
   part_beyond (suc n) (t ∷ ts) h =
-      Rattle.basics.proofs.Tests.cond-all Part (trivia t) {x = beyond (suc n) ts} {y = beyond n ts} (part_beyond (suc n) ts (part_next t ts h)) (part_beyond n ts (part_next t ts h))
+      cond-all Part (trivia t) {x = beyond (suc n) ts} {y = beyond n ts} (part_beyond (suc n) ts (part_next t ts h)) (part_beyond n ts (part_next t ts h))
 
   pub solid_there : (n : ℕ) (ts : List Token) → Part ts → solid_after n all (seated ts) ≡ seated (drop_trivia (beyond n ts))
   unfolding solid_after

@@ -1,6 +1,7 @@
 -- A walk through the events inside a node. Deep in it nothing is judged and only the place moves on; what stands
 -- directly in it is seen: an LCurly, and the Names that are judged.
-use Rattle.std.proofs.Common.{ℕ, suc, ◌+◌, ◌-◌, arith, ◌≡◌, refl, ap, sym, ◌∙◌, Bool, true, false, cond, ◌&&◌, ◌||◌, List, [], ◌∷◌, ◌++◌, append_assoc, eqb, length, drop}
+use Rattle.std.proofs.Common.{ℕ, suc, ◌+◌, ◌-◌, arith, ◌≡◌, refl, ap, sym, ◌∙◌, Bool, true, false, cond, ◌&&◌, ◌||◌, List, [], ◌∷◌, ◌++◌, append_assoc, eqb, length, drop, not, eqb-true}
+use mathlib.Core.Bool.{false≢true}
 use Rattle.definitions.specs.NodeKind as N
 use Rattle.definitions.specs.Token.{Token, drop_trivia, past, byte_count}
 use Rattle.definitions.specs.Skeleton.{Skeleton, done, token, name, node, ignored, report, over}
@@ -11,20 +12,20 @@ use Rattle.sink.specs.Encode.{Chained}
 use Rattle.labels.specs.declared.event.Event.{Event}
 use Rattle.labels.specs.declared.event.Event.TheVariants.{Start, Finish, Other}
 use Rattle.labels.specs.declared.node.Walk.{Walk}
-use Rattle.labels.specs.Model.{breaks, out, judged_kind, On, on, with_names, token_on, name_on, event_on, inside_on, settled, node_on}
+use Rattle.labels.specs.Model.{breaks, out, judged_kind, On, on, with_names, token_on, name_on, event_on, inside_on, settled, node_on, reported, solid_after}
 use Rattle.labels.proofs.JudgedNodes.{Plain}
 use Rattle.labels.proofs.Taken.{Firsts, Taken}
 use Rattle.labels.proofs.Alone.{alone_curly, alone_found}
 use Rattle.labels.proofs.Standing.{Rep, held, File, Part, part_past, part_drop, part_solid, part_after, seated, seat_there, passed_seat, solid_there, beyond, beyond_firsts, curly_first, past_drop, pushed, emit, emits, emits_append, reported_held}
-use Rattle.labels.proofs.Alike.{Alike, alike_self, emits_undone}
+use Rattle.labels.proofs.Alike.{Alike, alike_self, emits_undone, back_to}
 use Rattle.labels.proofs.Told.{told}
 
 pub not_under : (k : ℕ) (c : Bool) → judged_kind k ≡ false → under k c ≡ false
 not_under k c h = go (eqb k N.DtLabel) (eqb k N.DtPhandle) h
   where
-    go : (x y : Bool) → (x || y) ≡ false → (x || (y && mathlib.Core.Bool.not c)) ≡ false
+    go : (x y : Bool) → (x || y) ≡ false → (x || (y && not c)) ≡ false
     go true y e = e
-    go false true e = absurd (mathlib.Core.Bool.false≢true (sym e))
+    go false true e = absurd (false≢true (sym e))
     go false false e = refl
 
 -- no judged node, no judged Name
@@ -57,7 +58,7 @@ deeper d = go (eqb (suc d) 0) refl
   where
     go : (b : Bool) → eqb (suc d) 0 ≡ b → b ≡ false
     go false e = refl
-    go true e = let z : suc d ≡ 0 = borrow.Author.Tests.eqb-true (suc d) 0 e in absurd (omega arith)
+    go true e = let z : suc d ≡ 0 = eqb-true (suc d) 0 e in absurd (omega arith)
 
 module _ (F : File) where
   abbrev bytes : List ℕ
@@ -93,7 +94,7 @@ module _ (F : File) where
       let e : beyond 1 v ≡ past v = beyond_firsts 1 v f ∙ past_drop v in
       rw (solid_there F 1 v g, seat_there F v g, curly_first v, e) refl
 
-  name_end : (n : ℕ) (v : List Token) → Part F v → Rattle.labels.specs.Model.solid_after 0 all (seated F (drop n v)) ≡ seated F (drop_trivia (drop n v))
+  name_end : (n : ℕ) (v : List Token) → Part F v → solid_after 0 all (seated F (drop n v)) ≡ seated F (drop_trivia (drop n v))
   unfolding beyond
   name_end n v g = solid_there F 0 (drop n v) (part_drop F n v g)
 
@@ -130,7 +131,7 @@ module _ (F : File) where
       at = length all - length v
 
       go : (c : Bool)
-          → cond c (with_names (walking (drop_trivia u) 0 b r) (Rattle.labels.specs.Model.reported start end at first (held r))) (state (drop_trivia u) 0 b r)
+          → cond c (with_names (walking (drop_trivia u) 0 b r) (reported start end at first (held r))) (state (drop_trivia u) 0 b r)
           ≡ state (drop_trivia u) 0 b (cond c (pushed F start end at r) r)
       go true = ap (with_names (walking (drop_trivia u) 0 b r)) (reported_held F r start end at)
       go false = refl
@@ -288,15 +289,15 @@ module _ (F : File) where
 
       go : (x : Bool) → eqb k N.DtLabel ≡ x → (y : Bool) → eqb k N.DtPhandle ≡ y → (z : Bool) → curly i ts ≡ z → (x || y) ≡ true → Node-judged k i ts es r
       go true a true f z g q =
-          let m : k ≡ N.DtLabel = borrow.Author.Tests.eqb-true k N.DtLabel a in
-          let n : k ≡ N.DtPhandle = borrow.Author.Tests.eqb-true k N.DtPhandle f in
+          let m : k ≡ N.DtLabel = eqb-true k N.DtLabel a in
+          let n : k ≡ N.DtPhandle = eqb-true k N.DtPhandle f in
           absurd (omega arith)
       go true a false f z g q = record { last = names; alike = rw a (alike_self names); runs = by false z f g }
       go false a true f false g q = record { last = names; alike = rw (a, f, g) (alike_self names); runs = by true false f g }
       go false a true f true g q =
           record {
-            last = Rattle.labels.proofs.Alike.back_to F r names.reports;
+            last = back_to F r names.reports;
             alike = rw (a, f, g, plain_none i ts p) (emits_undone F (found true i ts) r);
             runs = by true true f g;
           }
-      go false a false f z g q = absurd (mathlib.Core.Bool.false≢true q)
+      go false a false f z g q = absurd (false≢true q)
