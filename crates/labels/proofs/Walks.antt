@@ -2,6 +2,8 @@
 -- directly in it is seen: an LCurly, and the Names that are judged.
 use Rattle.std.proofs.Common.{ℕ, suc, ◌+◌, ◌-◌, arith, ◌≡◌, refl, ap, sym, ◌∙◌, Bool, true, false, cond, ◌&&◌, ◌||◌, List, [], ◌∷◌, ◌++◌, append_assoc, eqb, length, drop, not, eqb-true}
 use mathlib.Core.Bool.{false≢true}
+use Rattle.std.proofs.Math.Bool.{or_assoc, or-false}
+use Rattle.std.proofs.Math.Dec.{eqb-suc-zero}
 use Rattle.definitions.specs.NodeKind as N
 use Rattle.definitions.specs.Token.{Token, drop_trivia, past, byte_count}
 use Rattle.definitions.specs.Skeleton.{Skeleton, done, token, name, node, ignored, report, over}
@@ -53,13 +55,6 @@ plain_node u k m m' a i o ts p pa pi =
     ap (λ (b : Bool). found b a w ++ (found b i v ++ found u o (after i v))) (not_under k (curly a w || curly i v) p)
     ∙ rw (plain_none a w pa, plain_none i v pi) refl
 
-deeper : (d : ℕ) → eqb (suc d) 0 ≡ false
-deeper d = go (eqb (suc d) 0) refl
-  where
-    go : (b : Bool) → eqb (suc d) 0 ≡ b → b ≡ false
-    go false e = refl
-    go true e = let z : suc d ≡ 0 = eqb-true (suc d) 0 e in absurd (omega arith)
-
 module _ (F : File) where
   abbrev bytes : List ℕ
   bytes = F.bytes
@@ -105,7 +100,7 @@ module _ (F : File) where
   name_deep n ts d b r h =
       let v : List Token = drop_trivia ts in
       let g : Part F v = part_solid F ts h in
-      rw (deeper d, seat_there F v g, passed_seat F n v g, name_end n v g) refl
+      rw (eqb-suc-zero d, seat_there F v g, passed_seat F n v g, name_end n v g) refl
 
   name_direct : (n : ℕ) (ts : List Token) (b : Bool) (r : Rep) → Part F ts
       → name_on bytes all first n (state (drop_trivia ts) 0 b r)
@@ -145,7 +140,7 @@ module _ (F : File) where
   deep (token x m o) ts d b r es h (f, t) =
       let v : List Token = drop_trivia ts in
       ap (λ (w : Walk). inside (told o ++ es) (on w r.reports)) (token_walk ts (suc d) b r h f)
-      ∙ ap (λ (c : Bool). inside (told o ++ es) (state (drop_trivia (past v)) (suc d) (cond c (cond (first_curly v) true b) b) r)) (deeper d)
+      ∙ ap (λ (c : Bool). inside (told o ++ es) (state (drop_trivia (past v)) (suc d) (cond c (cond (first_curly v) true b) b) r)) (eqb-suc-zero d)
       ∙ deep o (past v) d b r es (part_past F v (part_solid F ts h)) t
   deep (name raw m o) ts d b r es h (f, t) =
       let v : List Token = drop_trivia ts in
@@ -165,7 +160,7 @@ module _ (F : File) where
       ∙ deep a w d b r (Start k ∷ (told i ++ end)) hw ta
       ∙ ap (λ n. inside (told i ++ end) (state (drop_trivia v) n b r)) up
       ∙ deep i v (suc d) b r end hv ti
-      ∙ ap (λ (c : Bool). cond c (state (drop_trivia (after i v)) (suc (suc d)) b r) (inside (told o ++ es) (state (drop_trivia (after i v)) (suc (suc d) - 1) b r))) (deeper (suc d))
+      ∙ ap (λ (c : Bool). cond c (state (drop_trivia (after i v)) (suc (suc d)) b r) (inside (told o ++ es) (state (drop_trivia (after i v)) (suc (suc d) - 1) b r))) (eqb-suc-zero (suc d))
       ∙ ap (λ n. inside (told o ++ es) (state (drop_trivia (after i v)) n b r)) down
       ∙ deep o (after i v) d b r es (part_after F i v hv) to
   deep (ignored m m' a i o) ts d b r es h (ta, (ti, to)) =
@@ -188,26 +183,21 @@ module _ (F : File) where
   or_cond false true = refl
   or_cond false false = refl
 
-  or_again : (a b c : Bool) → ((a || b) || c) ≡ (a || (b || c))
-  or_again true b c = refl
-  or_again false b c = refl
-
   or_none : (b c : Bool) → c ≡ false → (b || c) ≡ b
-  or_none true c e = refl
-  or_none false c e = e
+  or_none b c e = rw e (or-false b)
 
   -- what stands directly there is seen, and its Names are judged
   direct : (o : Skeleton) (ts : List Token) (b : Bool) (r : Rep) (es : List Event) → Part F ts → Chained o → Plain o → Taken o ts
       → inside (told o ++ es) (state (drop_trivia ts) 0 b r) ≡ inside es (state (drop_trivia (after o ts)) 0 (b || curly o ts) (emits F (found true o ts) r))
   unfolding told after Taken Chained Plain curly found emits inside_on event_on
-  direct done ts b r es h c p t = ap (λ (x : Bool). inside es (state (drop_trivia ts) 0 x r)) (sym (or_none b false refl))
+  direct done ts b r es h c p t = ap (λ (x : Bool). inside es (state (drop_trivia ts) 0 x r)) (sym (or-false b))
   direct (token x m o) ts b r es h c p (f, t) =
       let v : List Token = drop_trivia ts in
       let q : Bool = first_curly v in
       ap (λ (w : Walk). inside (told o ++ es) (on w r.reports)) (token_walk ts 0 b r h f)
       ∙ ap (λ (x : Bool). inside (told o ++ es) (state (drop_trivia (past v)) 0 x r)) (or_cond q b)
       ∙ direct o (past v) (b || q) r es (part_past F v (part_solid F ts h)) c p t
-      ∙ ap (λ (x : Bool). inside es (state (drop_trivia (after o (past v))) 0 x (emits F (found true o (past v)) r))) (or_again b q (curly o (past v)))
+      ∙ ap (λ (x : Bool). inside es (state (drop_trivia (after o (past v))) 0 x (emits F (found true o (past v)) r))) (or_assoc b q (curly o (past v)))
   direct (name raw m o) ts b r es h c p (f, t) =
       let v : List Token = drop_trivia ts in
       let u : List Token = drop (length raw) v in
@@ -245,7 +235,7 @@ module _ (F : File) where
       ∙ direct i v (b || curly a ts) (emits F f r) end hv ci pi ti
       ∙ direct o x ((b || curly a ts) || curly i v) (emits F g (emits F f r)) es (part_after F i v hv) co po to
       ∙ ap (λ (y : Bool). inside es (state (drop_trivia (after o x)) 0 y (emits F k (emits F g (emits F f r)))))
-      (or_again (b || curly a ts) (curly i v) (curly o x) ∙ or_again b (curly a ts) (curly i v || curly o x))
+      (or_assoc (b || curly a ts) (curly i v) (curly o x) ∙ or_assoc b (curly a ts) (curly i v || curly o x))
       ∙ ap (λ (q : Rep). inside es (state (drop_trivia (after o x)) 0 (b || (curly a ts || (curly i v || curly o x))) q))
       (sym (emits_append F f (g ++ k) r ∙ emits_append F g k (emits F f r)))
   direct (report y o) ts b r es h c p t = direct o ts b r es h c p t
