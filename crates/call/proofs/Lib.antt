@@ -1,4 +1,2 @@
--- What the proofs of the functions share, and what the exported call's cite.
-pub mod Ways
+-- What the exported call's proof cites.
 pub mod Called
-pub mod TextRows

@@ -1,16 +1,20 @@
 -- What is left after a parse. No part of the exported promise.
-use Rattle.std.specs.Prelude.{ℕ, ◌*◌, ◌/◌, ◌<◌, ◌≡◌, true, false, Ok, Err, List, eqb, length, take}
+use Rattle.std.specs.Prelude.{ℕ, ◌*◌, ◌/◌, ◌<◌, ◌≡◌, cond, eqb, take, Result, Ok, Err}
 use Rattle.basics.specs.Word.{low}
 use Rattle.definitions.specs.Layout.{TREE_ROW, ERROR_ROW, REPORT_ROW, NO_REPORT_ROOM, NO_TREE_ROOM, TWO_TO_64}
-use Rattle.definitions.specs.Call.{Buffers, Result}
-use Rattle.sink.specs.declared.Sunk.{Sunk}
-use Rattle.sink.specs.declared.Sunk.TheVariants.{Written, NoRoom}
+use Rattle.definitions.specs.Call.{Buffers}
+use Rattle.definitions.specs.Call as Call
+use Rattle.machine.specs.Machine.{Machine}
+use Rattle.sink.specs.Sunk.{Sunk}
 use Rattle.sink.specs.Promise as Sink
 use Rattle.labels.specs.Model.{Names}
 use Rattle.labels.specs.Promise as Labels
-use Rattle.refinement.specs.Ends.{swept}
+use Rattle.refinement.specs.Ends.{swept, SameLengths}
 use Rattle.call.specs.declared.Answer.{Answer}
-use Rattle.call.specs.Result.{Lent, Shown, answer_of, buffers_of}
+use Rattle.call.specs.declared.lent.Input.{Input}
+use Rattle.call.specs.declared.outcome.Filled.{Filled}
+use Rattle.call.specs.declared.outcome.Refusal.{Refusal}
+use Rattle.call.specs.Result.{answer_of}
 
 -- a refused answer, and an accepted one
 abbrev pub refused_with : ℕ → ℕ → Answer
@@ -21,8 +25,8 @@ accepted_with t e r n = record { number = 0; place = 0; tree_count = t; error_co
 
 -- by what the sink says, with so many numbers of reports and so many expectations
 abbrev pub sunk_with : Sunk → ℕ → ℕ → Answer
-sunk_with (Written t e) r n = accepted_with t e (r / REPORT_ROW) n
-sunk_with NoRoom r n = refused_with NO_TREE_ROOM 0
+sunk_with (Ok w) r n = accepted_with w.rows w.errors (r / REPORT_ROW) n
+sunk_with (Err e) r n = refused_with NO_TREE_ROOM 0
 
 -- and by what the reports of the setting's Names come to: 7 comes before 8
 abbrev pub named_with : Sunk → Names → ℕ → Answer
@@ -35,51 +39,35 @@ pub record CountsFit (a : Answer) : Type 0 where
   pub errors : a.error_count * ERROR_ROW < TWO_TO_64
   pub reports : a.report_count * REPORT_ROW < TWO_TO_64
 
--- root-kind: that of the root's node. events-written, reports-written, pool-written: how many numbers the parse wrote
--- to these buffers.
--- trees, errors, reports: these buffers before, and after it.
-pub record AnswerOfRun (root_kind setting events_written reports_written pool_written : ℕ)
-    (bytes tokens events trees errors reports : List ℕ) (a : Answer) (trees' errors' reports' : List ℕ) : Type 0 where
+-- The sink and the Names' reports follow a run that wrote so much. root_kind: that of the root's node. b, c: what the
+-- buffers hold before, and after it.
+pub record AnswerOfRun (root_kind : ℕ) (w : Filled) (input : Input) (b : Buffers) (a : Answer) (c : Buffers) : Type 0 where
   pub sunk : Sunk
   pub names : Names
-  pub placed : Sink.Promise root_kind tokens (take events_written events) trees errors sunk trees' errors'
-  pub named : Labels.Promise setting root_kind bytes tokens reports_written (low pool_written) (take events_written events)
-      reports names reports'
-  pub answer : a ≡ named_with sunk names pool_written
+  pub placed : Sink.Promise root_kind input.tokens.now (take w.events b.events) b.trees b.errors sunk c.trees c.errors
+  pub named : Labels.Promise input.setting root_kind input.bytes.now input.tokens.now w.reports (low w.pool)
+      (take w.events b.events) b.reports names c.reports
+  pub answer : a ≡ named_with sunk names w.pool
   pub counts_fit : CountsFit a
 
--- the parse was refused with a number at a place, or the sink and the Names' reports follow it
-pub record AnswerOfParse (number place root_kind setting events_written reports_written pool_written : ℕ)
-    (bytes tokens events trees errors reports : List ℕ) (a : Answer) (trees' errors' reports' : List ℕ) : Type 0 where
-  pub stopped : eqb number 0 ≡ false → a ≡ refused_with number place
-  pub ran : eqb number 0 ≡ true
-      → AnswerOfRun root_kind setting events_written reports_written pool_written bytes tokens events trees errors reports a
-      trees' errors' reports'
+-- the run was refused, or these follow it
+pub record AnswerOfParse (root_kind : ℕ) (r : Result Filled Refusal) (input : Input) (b : Buffers) (a : Answer) (c : Buffers) : Type 0 where
+  pub stopped : (s : Refusal) → r ≡ Err s → a ≡ refused_with s.number s.place
+  pub ran : (w : Filled) → r ≡ Ok w → AnswerOfRun root_kind w input b a c
   pub counts_fit : CountsFit a
+  pub events : c.events ≡ b.events
+  pub pool : c.pool ≡ b.pool
 
--- the same of lent buffers, as a contract has them
-abbrev pub AnswersRun : ℕ → ℕ → ℕ → ℕ → ℕ → Shown → Shown → Shown → Lent → Lent → Lent → Answer → Type 0
-AnswersRun root_kind setting events_written reports_written pool_written bytes tokens events trees errors reports a =
-    AnswerOfRun root_kind setting events_written reports_written pool_written
-    bytes.entry.now tokens.entry.now events.entry.now trees.entry.now errors.entry.now reports.entry.now
-    a trees.exit.now errors.exit.now reports.exit.now
-
-abbrev pub AnswersParse : ℕ → ℕ → ℕ → ℕ → ℕ → ℕ → ℕ → Shown → Shown → Shown → Lent → Lent → Lent → Answer → Type 0
-AnswersParse number place root_kind setting events_written reports_written pool_written bytes tokens events trees errors reports a =
-    AnswerOfParse number place root_kind setting events_written reports_written pool_written
-    bytes.entry.now tokens.entry.now events.entry.now trees.entry.now errors.entry.now reports.entry.now
-    a trees.exit.now errors.exit.now reports.exit.now
-
--- the result x: such an answer, and the buffers b cleared after the rows that it counts
-pub record Ended (number place root_kind setting events_written reports_written pool_written : ℕ) (bytes tokens : List ℕ) (b : Buffers)
-    (x : Result) : Type 0 where
+-- the result x: such an answer, and the buffers cleared after the rows that it counts; b: what they held before
+pub record Ended (root_kind : ℕ) (r : Result Filled Refusal) (input : Input) (b : Buffers) (x : Call.Result) : Type 0 where
   pub answer : Answer
-  pub trees : List ℕ
-  pub errors : List ℕ
-  pub reports : List ℕ
-  pub trees_length : length trees ≡ length b.trees
-  pub errors_length : length errors ≡ length b.errors
-  pub reports_length : length reports ≡ length b.reports
-  pub of_parse : AnswerOfParse number place root_kind setting events_written reports_written pool_written
-      bytes tokens b.events b.trees b.errors b.reports answer trees errors reports
-  pub once_cleared : swept (answer_of answer) (buffers_of b.events trees errors reports b.pool) ≡ x
+  pub left : Buffers
+  pub same_lengths : SameLengths b left
+  pub of_parse : AnswerOfParse root_kind r input b answer left
+  pub once_cleared : swept (answer_of answer) left ≡ x
+
+-- how a run ended whose machine is then m
+abbrev pub run_of : Machine → Result Filled Refusal
+run_of m =
+    cond (eqb m.refusal 0) (Ok (record { events = m.events.count; reports = m.reports.count; pool = m.pool.count }))
+    (Err (record { number = m.refusal; place = m.place }))

@@ -1,6 +1,6 @@
 -- The exported call's answer and the lent buffers, in the terms of `definitions`.
-use Rattle.std.specs.Prelude.{ℕ, List}
-use Rattle.std.specs.Borrow.{Bor, MutBor}
+use Rattle.std.specs.Prelude.{ℕ, ◌≡◌, List, length}
+use Rattle.std.specs.Borrow.{MutBor}
 use denote.Triple.Both.{Both}
 use Rattle.definitions.specs.Call.{Buffers, Result}
 use Rattle.definitions.specs.Call as Call
@@ -9,6 +9,7 @@ use Rattle.definitions.specs.Caret.{ListResult}
 use Rattle.call.specs.declared.Answer.{Answer}
 use Rattle.call.specs.declared.text.TextAnswer.{TextAnswer}
 use Rattle.call.specs.declared.list.ListAnswer.{ListAnswer}
+use Rattle.call.specs.declared.lent.Buffers.{Buffers as LentBuffers}
 
 -- the numbers of an answer
 abbrev pub answer_of : Answer → Call.Answer
@@ -26,10 +27,6 @@ answer_of a =
 abbrev pub Lent : Type 0
 Lent = Both (MutBor (List ℕ)) (MutBor (List ℕ))
 
--- one that is lent to be read
-abbrev pub Shown : Type 0
-Shown = Both (Bor (List ℕ)) (Bor (List ℕ))
-
 -- what the lent buffers hold: events, tree rows, lexical errors, reports, expectations
 abbrev pub buffers_of : List ℕ → List ℕ → List ℕ → List ℕ → List ℕ → Buffers
 buffers_of events trees errors reports pool = record { events = events; trees = trees; errors = errors; reports = reports; pool = pool }
@@ -43,6 +40,23 @@ at_entry events trees errors reports pool =
 abbrev pub at_exit : Lent → Lent → Lent → Lent → Lent → Buffers
 at_exit events trees errors reports pool =
     buffers_of events.exit.now trees.exit.now errors.exit.now reports.exit.now pool.exit.now
+
+-- and of buffers that are passed on together
+abbrev pub held : LentBuffers → Buffers
+held b = buffers_of b.events.now b.trees.now b.errors.now b.reports.now b.pool.now
+
+-- these are the same slices, each as long as before, whatever they hold
+pub record SameSlices (b c : LentBuffers) : Type 0 where
+  pub events : c.events.ghost_name ≡ b.events.ghost_name
+  pub trees : c.trees.ghost_name ≡ b.trees.ghost_name
+  pub errors : c.errors.ghost_name ≡ b.errors.ghost_name
+  pub reports : c.reports.ghost_name ≡ b.reports.ghost_name
+  pub pool : c.pool.ghost_name ≡ b.pool.ghost_name
+  pub events_length : length c.events.now ≡ length b.events.now
+  pub trees_length : length c.trees.now ≡ length b.trees.now
+  pub errors_length : length c.errors.now ≡ length b.errors.now
+  pub reports_length : length c.reports.now ≡ length b.reports.now
+  pub pool_length : length c.pool.now ≡ length b.pool.now
 
 -- an answer, and what the buffers hold with it
 abbrev pub result_of : Answer → Buffers → Result

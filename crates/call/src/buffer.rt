@@ -6,9 +6,6 @@ ghost use Rattle.refinement.specs.Ends.{wiped};
 pub fn clear(buffer: &mut [u32], from: usize)
     ensures { buffer.new ≡ wiped from buffer.old }
 {
-    let mut i = from;
-    while i < buffer.len() {
-        buffer[i] = 0;
-        i += 1;
-    }
+    let kept = from.min(buffer.len());
+    buffer[kept..].fill(0);
 }

@@ -4,11 +4,12 @@
 
 pub mod buffer;
 pub mod check_input;
+pub mod lent;
 pub mod list;
 pub mod outcome;
 pub mod text;
 
-ghost use Rattle.std.specs.Prelude.{◌≡◌};
+ghost use Rattle.std.specs.Prelude.{◌≡◌, eqb};
 ghost use Rattle.call.specs.Ended.{refused_with, accepted_with};
 
 // The cause, or 0 for an accepted call; its place; and how many tree rows, lexical errors, reports and expectations
@@ -24,13 +25,21 @@ pub struct Answer {
     pub expectation_count: usize,
 }
 
+impl Answer {
+    pub fn is_accepted(&self) -> bool
+        ensures { result ≡ eqb self.now.number 0 }
+    {
+        self.number == 0
+    }
+}
+
 // A refused call's counts are 0.
 pub fn refused(number: u32, place: usize) -> Answer
     ensures { result ≡ refused_with number place }
 {
     Answer {
-        number: number,
-        place: place,
+        number,
+        place,
         tree_count: 0,
         error_count: 0,
         report_count: 0,
@@ -51,7 +60,7 @@ pub fn accepted(
         place: 0,
         tree_count: tree_count as usize,
         error_count: error_count as usize,
-        report_count: report_count,
-        expectation_count: expectation_count,
+        report_count,
+        expectation_count,
     }
 }

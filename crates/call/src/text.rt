@@ -30,17 +30,10 @@ pub fn finish(a: Answer, tokens: &mut [u32], numbers: usize) -> TextAnswer
     ensures value { result ≡ rows_kept a numbers }
     ensures tokens_after { tokens.new ≡ rows_left a numbers tokens.old }
 {
-    let accepted = a.number == 0;
-    if accepted {
-        clear(tokens, numbers);
-        return TextAnswer {
-            answer: a,
-            token_count: numbers / TOKEN_ROW,
-        };
-    }
-    clear(tokens, 0);
+    let kept = if a.is_accepted() { numbers } else { 0 };
+    clear(tokens, kept);
     TextAnswer {
         answer: a,
-        token_count: 0,
+        token_count: kept / TOKEN_ROW,
     }
 }

@@ -1,31 +1,32 @@
 -- Which rows an offset asks for: inside the file, past it, at the end of an empty file, at the end of another.
-use Prim.Native.Nat.{ℕ, ◌-◌}
+use Prim.Native.Nat.{ℕ, ◌-◌, ◌<◌, ◌≤◌}
+use native.Mathlib.Omega.{arith}
 use mathlib.Core.Path.{◌≡◌, refl, ap, sym, ◌∙◌}
-use mathlib.Core.Bool.{true, false}
 use mathlib.Core.List.{List, [], ◌∷◌}
-use lib.Dec.{ltb, eqb}
 use lib.ListN.{length, set}
+use borrow.Author.Tests.{lt-ltb, le-ltb, eq-eqb, ne_eqb}
+use Rattle.std.proofs.Common.{◌≢◌}
 use Rattle.definitions.specs.Caret.{caret}
 use Rattle.rows.specs.ResultRows.{Row}
 use Rattle.rows.specs.OnePass.{holding, found}
 use Rattle.caret.specs.Walk.{laid}
 
 module _ (offset size : ℕ) (l : List Row) where
-  pub at_inside : ltb offset size ≡ true → found (caret offset) size l ≡ holding 0 offset l
+  pub at_inside : offset < size → found (caret offset) size l ≡ holding 0 offset l
   unfolding found
-  at_inside e = rw e refl
+  at_inside h = rw lt-ltb
 
-  pub at_past : ltb offset size ≡ false → eqb offset size ≡ false → found (caret offset) size l ≡ []
+  pub at_past : size ≤ offset → offset ≢ size → found (caret offset) size l ≡ []
   unfolding found
-  at_past e f = rw (e, f) refl
+  at_past h n = rw (le-ltb, ne_eqb offset size n)
 
-  pub at_empty : ltb offset size ≡ false → eqb offset size ≡ true → eqb size 0 ≡ true → found (caret offset) size l ≡ 0 ∷ []
+  pub at_empty : offset ≡ size → size ≡ 0 → found (caret offset) size l ≡ 0 ∷ []
   unfolding found
-  at_empty e f g = rw (e, f, g) refl
+  at_empty e z = rw (e, z)
 
-  pub at_end : ltb offset size ≡ false → eqb offset size ≡ true → eqb size 0 ≡ false → found (caret offset) size l ≡ holding 0 (size - 1) l
+  pub at_end : offset ≡ size → size ≢ 0 → found (caret offset) size l ≡ holding 0 (size - 1) l
   unfolding found
-  at_end e f g = rw (e, f, g) refl
+  at_end e n = let h : size ≤ size = omega arith in rw (e, le-ltb size size h, eq-eqb size size refl, ne_eqb size 0 n)
 
 -- what is found, on the list
 pub as_found : {x y : List ℕ} (n : ℕ) (list list' : List ℕ) → x ≡ y → (n ≡ length y) × (list' ≡ laid y list) → (n ≡ length x) × (list' ≡ laid x list)

@@ -128,6 +128,30 @@ module _ {trees : List ℕ} {index left i rest w : ℕ} (s : Seeking trees index
             fewer = omega (arith, s.fewer);
           }
 
+-- the same, with what the reads and differences of a turn need
+pub record Turning (trees : List ℕ) (index left i rest w : ℕ) : Type 0 where
+  pub seeking : Seeking trees index left i rest w
+  pub onward : index ≤ i
+  pub there : i + TREE_ROW ≤ length trees
+  pub first : w ≤ rest → get_or trees i 0 * w ≤ rest
+  pub second_there : w ≤ rest → i + TREE_ROW + TREE_ROW ≤ length trees
+  pub second : w ≤ rest → get_or trees (i + TREE_ROW + TREE_WIDTH) 0 ≤ rest - get_or trees i 0 * w
+      → get_or trees (i + TREE_ROW) 0 * get_or trees (i + TREE_ROW + TREE_WIDTH) 0 ≤ rest - get_or trees i 0 * w
+  pub third_there : w ≤ rest → get_or trees (i + TREE_ROW + TREE_WIDTH) 0 ≤ rest - get_or trees i 0 * w
+      → i + TREE_ROW + TREE_ROW + TREE_ROW ≤ length trees
+
+pub turning : {trees : List ℕ} {index left i rest w : ℕ} → Seeking trees index left i rest w → index ≤ i → Turning trees index left i rest w
+turning s h =
+    record {
+      seeking = s;
+      onward = h;
+      there = row_there s;
+      first = λ a. first_less s a;
+      second_there = λ a. second_there s a;
+      second = λ a b. second_less s a b;
+      third_there = λ a b. third_there s a b;
+    }
+
 -- ---------------------------------------------------------------- passing over a part
 
 -- the part that was started adds up from the index on
@@ -169,3 +193,24 @@ pub passed_none : (l : List Row) → passed 0 l ≡ 0
 unfolding passed
 passed_none [] = refl
 passed_none (r ∷ l) = refl
+
+-- the walk over the part: where it is, with what the reads and the difference of a turn need
+pub record Passing (trees : List ℕ) (index inside i rest : ℕ) : Type 0 where
+  pub part : Inside trees i rest
+  pub same : i + TREE_ROW * passed rest (rows_from trees i) ≡ index + TREE_ROW * passed inside (rows_from trees index)
+  pub fewer : rest ≤ inside
+  pub there : 0 < rest → i + TREE_ROW ≤ length trees
+  pub less : 0 < rest → get_or trees i 0 * get_or trees (i + TREE_WIDTH) 0 ≤ rest
+
+pub passing : {trees : List ℕ} {index inside i rest : ℕ} → Inside trees i rest → i + TREE_ROW * passed rest (rows_from trees i) ≡ index + TREE_ROW * passed inside (rows_from trees index) → rest ≤ inside → Passing trees index inside i rest
+passing p s f = record { part = p; same = s; fewer = f; there = λ h. inside_there p h; less = λ h. (inside_past p h).less }
+
+pub passed_on : {trees : List ℕ} {index inside i rest : ℕ} → Passing trees index inside i rest → 0 < rest
+    → Passing trees index inside (i + TREE_ROW) (rest - get_or trees i 0 * get_or trees (i + TREE_WIDTH) 0)
+passed_on p h =
+    let l = inside_past p.part h in
+    let one = l.one_more in
+    passing l.inside_still (omega (arith, p.same, one)) (omega (arith, p.fewer))
+
+pub passed_all : {trees : List ℕ} {index inside i rest : ℕ} → Passing trees index inside i rest → rest ≡ 0 → i ≡ index + TREE_ROW * passed inside (rows_from trees index)
+passed_all {trees = trees} {i = i} {rest = rest} p e = let z : passed rest (rows_from trees i) ≡ 0 = rw e (passed_none (rows_from trees i)) in omega (arith, p.same, z)

@@ -1,7 +1,7 @@
 // The chain of rows from the root to the leaf that owns a byte. In preorder a row starts where the leaves before it
 // end, so the rows that have the byte are found by passing over all others.
-ghost use Rattle.std.specs.Prelude.{◌≡◌, ◌<◌, length, drop};
-ghost use Rattle.definitions.specs.Layout.{TWO_TO_32};
+ghost use Rattle.std.specs.Prelude.{◌≡◌, ◌+◌, ◌<◌, ◌≤◌, length, drop};
+ghost use Rattle.definitions.specs.Layout.{TREE_ROW, TWO_TO_32};
 ghost use Rattle.definitions.specs.Caret.{caret};
 ghost use Rattle.rows.specs.ResultRows.{raw_bytes};
 ghost use Rattle.rows.specs.OnePass.{tree_rows_of, holding, found, Classes, Sound};
@@ -10,7 +10,7 @@ ghost use Rattle.caret.specs.Walk.{laid, seek_from};
 use crate::list::put;
 use layout::row::{LEAF, TREE_ROW, TREE_WIDTH};
 
-// A row that has the byte: the index of its first number, and how far after the row's start the byte is.
+// A row, by the index of its first number, and how far after the row's start the byte is.
 #[derive(Clone, Copy)]
 pub struct Spot {
     pub index: usize,
@@ -20,21 +20,22 @@ pub struct Spot {
 // The numbers of two rows: the walk takes two in a turn, which saves half an instruction of six for each row.
 const PAIR: usize = 2 * TREE_ROW;
 
-// The first row from an index on that has the byte `left` bytes after the start of the row there. There is one, so no
-// end of the rows is looked for. A row's class is 0 for a node and 1 for a leaf, which alone moves the start.
-pub fn seek(trees: &[u32], index: usize, left: u32) -> Spot
-    requires { (left < raw_bytes (tree_rows_of (drop index trees.now)))
-        × Classes (tree_rows_of (drop index trees.now)) }
-    ensures { result ≡ seek_from index left (tree_rows_of (drop index trees.now)) }
+// The first row from one on that has the byte `left` bytes after the start of that one. There is one, so no end of the
+// rows is looked for. A row's class is 0 for a node and 1 for a leaf, which alone moves the start.
+pub fn seek(trees: &[u32], from: Spot) -> Spot
+    requires { (from.left < raw_bytes (tree_rows_of (drop from.index trees.now)))
+        × Classes (tree_rows_of (drop from.index trees.now)) }
+    ensures value { result ≡ seek_from from.index from.left (tree_rows_of (drop from.index trees.now)) }
+    ensures inside { result.index + TREE_ROW ≤ length trees.now }
+    ensures onward { from.index ≤ result.index }
 {
-    let mut i = index;
-    let mut rest = left;
+    let mut i = from.index;
+    let mut rest = from.left;
     let mut width = trees[i + TREE_WIDTH];
     while width <= rest {
         rest -= trees[i] * width;
         let next = trees[i + TREE_ROW + TREE_WIDTH];
-        let here = rest < next;
-        if here {
+        if rest < next {
             return Spot {
                 index: i + TREE_ROW,
                 left: rest,
@@ -58,20 +59,19 @@ fn chain(byte: u32, trees: &[u32], list: &mut [u32]) -> usize
     ensures list_after { list.new
         ≡ laid (holding 0 byte (tree_rows_of trees.now)) list.old }
 {
-    let mut index: usize = 0;
-    let mut left = byte;
-    let mut count: usize = 0;
+    let mut spot = Spot {
+        index: 0,
+        left: byte,
+    };
+    let mut count = 0;
     loop {
-        let spot = seek(trees, index, left);
-        let here = spot.index;
-        put(list, count, (here / TREE_ROW) as u32);
+        spot = seek(trees, spot);
+        put(list, count, (spot.index / TREE_ROW) as u32);
         count += 1;
-        let leaf = trees[here] == LEAF;
-        if leaf {
+        if trees[spot.index] == LEAF {
             return count;
         }
-        index = here + TREE_ROW;
-        left = spot.left;
+        spot.index += TREE_ROW;
     }
 }
 
@@ -83,18 +83,14 @@ pub fn rows_at(offset: u64, size: usize, trees: &[u32], list: &mut [u32]) -> usi
         ≡ laid (found (caret offset) size (tree_rows_of trees.now)) list.old }
 {
     let length = size as u64;
-    let inside = offset < length;
-    if inside {
-        return chain(offset as u32, trees, list);
-    }
-    let past = offset != length;
-    if past {
-        return 0;
-    }
-    let empty = size == 0;
-    if empty {
+    if offset < length {
+        chain(offset as u32, trees, list)
+    } else if offset != length {
+        0
+    } else if size == 0 {
         put(list, 0, 0);
-        return 1;
+        1
+    } else {
+        chain((size - 1) as u32, trees, list)
     }
-    chain((size - 1) as u32, trees, list)
 }

@@ -6,25 +6,14 @@ ghost use Rattle.definitions.specs.Caret.{range, share};
 ghost use Rattle.rows.specs.OnePass.{tree_rows_of, starting, found, Classes, AddsUp, Sound};
 ghost use Rattle.caret.specs.Walk.{laid, passed, Starts};
 
-use crate::chain::seek;
-use crate::list::put_if;
+use crate::chain::{Spot, seek};
+use crate::list::put;
 use layout::row::{TREE_ROW, TREE_WIDTH};
 
 fn shares(from: u64, to: u64, start: u64, end: u64) -> bool
     ensures { result ≡ share from to start end }
 {
-    let some = from < to;
-    if some {
-        let begins = from < end;
-        if begins {
-            let ends = start < to;
-            if ends { start < end } else { false }
-        } else {
-            false
-        }
-    } else {
-        false
-    }
+    from < to && from < end && start < to && start < end
 }
 
 // The index after the rows, from an index on, whose leaves add up to so many bytes.
@@ -60,16 +49,14 @@ fn sharing_from(
 {
     let mut index = first;
     let mut start = first_byte;
-    let mut count: usize = 0;
-    while index + TREE_ROW <= trees.len() {
-        let over = to <= start;
-        if over {
-            return count;
-        }
+    let mut count = 0;
+    while index + TREE_ROW <= trees.len() && start < to {
         let width = trees[index + TREE_WIDTH];
         let end = start + width as u64;
-        let listed = shares(from, to, start, end);
-        count = put_if(listed, list, count, (index / TREE_ROW) as u32);
+        if shares(from, to, start, end) {
+            put(list, count, (index / TREE_ROW) as u32);
+            count += 1;
+        }
         index = past(trees, index + TREE_ROW, width - trees[index] * width);
         start = end;
     }
@@ -83,13 +70,14 @@ pub fn sharing(from: u64, to: u64, size: usize, trees: &[u32], list: &mut [u32])
     ensures list_after { list.new
         ≡ laid (found (range from to) size (tree_rows_of trees.now)) list.old }
 {
-    let length = size as u64;
-    let inside = from < length;
-    if inside {
-        let spot = seek(trees, TREE_ROW, from as u32);
-        let first = spot.index;
-        let first_byte = from - spot.left as u64;
-        return sharing_from(from, to, first, first_byte, trees, list);
+    if from < size as u64 {
+        let top = Spot {
+            index: TREE_ROW,
+            left: from as u32,
+        };
+        let spot = seek(trees, top);
+        sharing_from(from, to, spot.index, from - spot.left as u64, trees, list)
+    } else {
+        0
     }
-    0
 }

@@ -1,5 +1,5 @@
 -- A call over a text, put together as the code does: refused before the parse, or its rows parsed and kept.
-use Prim.Native.Nat.{ℕ, ◌-◌, ◌/◌, ◌≤◌}
+use Prim.Native.Nat.{ℕ, ◌/◌, ◌≤◌}
 use native.Mathlib.Omega.{arith}
 use mathlib.Core.Path.{◌≡◌, refl, sym, ◌∙◌, ap}
 use mathlib.Core.Bool.{cond}
@@ -14,7 +14,7 @@ use Rattle.definitions.specs.RowCauses.{check_input}
 use Rattle.definitions.specs.Lex.{lex}
 use Rattle.definitions.specs.Call.{Buffers, Asked, for, unknown, entry_of, written}
 use Rattle.definitions.specs.Call as Call
-use Rattle.definitions.specs.Text.{TextRefusal, unknown_entry, text_number, text_place, TextVerdict, sound, unsound, numbers_of, check_text, TextResult, unchanged, with_rows, checked_text, asked_text, text_call}
+use Rattle.definitions.specs.Text.{TextRefusal, text_number, text_place, TextVerdict, sound, unsound, numbers_of, check_text, TextResult, unchanged, with_rows, checked_text, asked_text, text_call}
 use Rattle.lexing.proofs.RowsPass.{rows_pass}
 use Rattle.lexer.specs.declared.check.Checked.{Checked}
 use Rattle.lexer.specs.declared.check.Checked.TheVariants as C
@@ -24,8 +24,7 @@ use Rattle.call.specs.declared.Answer.{Answer}
 use Rattle.call.specs.declared.text.TextAnswer.{TextAnswer}
 use Rattle.call.specs.Result.{answer_of, result_of, text_result_of}
 use Rattle.call.specs.Text.{refused_text_with, rows_kept, rows_left}
-use Rattle.call.proofs.Called.{sound_call}
-use Rattle.call.proofs.TextRows.{rows_and_zeros, all_zeros}
+use Rattle.refinement.proofs.Wiped.{wiped_whole, wiped_written}
 use Rattle.grammar.specs.declared.entry.Entrypoint.{Entrypoint}
 use Rattle.grammar.specs.Subprograms.{entry_for}
 use Rattle.dt_parser.specs.Asked.{entry_checked, entry_text}
@@ -80,7 +79,7 @@ module _ (e : Entrypoint) (setting : ℕ) (bytes tokens tokens' tokens'' : List 
       λ i. record {
         answer = answer_of a;
         token_count = cond (eqb a.number 0) (w.count i / TOKEN_ROW) 0;
-        tokens = cond (eqb a.number 0) (rows_and_zeros (numbers_of (lex bytes)) tokens tokens' n w.front w.count w.same_length i) (all_zeros tokens tokens' w.same_length i);
+        tokens = cond (eqb a.number 0) (wiped_written (numbers_of (lex bytes)) tokens tokens' n w.same_length w.count w.front i) (wiped_whole tokens tokens' w.same_length i);
         buffers = b';
       }
 
@@ -94,15 +93,9 @@ module _ (e : Entrypoint) (setting : ℕ) (bytes tokens tokens' tokens'' : List 
 
 -- ---------------------------------------------------------------- by the entry's number
 
-pub no_such_entry : (setting : ℕ) (bytes tokens : List ℕ) (b : Buffers) (n : ℕ) (a : TextAnswer) → unknown ≡ entry_of n
-    → a ≡ refused_text_with (text_number unknown_entry) (text_place unknown_entry) → text_result_of a tokens b ≡ text_call n setting bytes tokens b
-unfolding text_call asked_text
-no_such_entry setting bytes tokens b n a k f =
-    refused_as unknown_entry tokens tokens b a f refl ∙ ap (λ (w : Asked). asked_text w n setting bytes tokens b) k
-
 pub known_entry : (e : Entrypoint) (setting : ℕ) (bytes tokens : List ℕ) (b : Buffers) (n : ℕ) (x : TextResult) → for (entry_for e) ≡ entry_of n
     → x ≡ entry_text e setting bytes tokens b → x ≡ text_call n setting bytes tokens b
-unfolding text_call asked_text entry_text entry_checked checked_text
+unfolding text_call asked_text entry_text entry_checked checked_text Call.call Call.asked Call.checked
 known_entry e setting bytes tokens b n x k h = h ∙ go (check_text bytes (lex bytes) (length tokens)) refl ∙ ap (λ (w : Asked). asked_text w n setting bytes tokens b) k
   where
     rows : List ℕ
@@ -113,4 +106,4 @@ known_entry e setting bytes tokens b n x k h = h ∙ go (check_text bytes (lex b
     go (unsound q) f = refl
     go sound f =
         let s = sound_text bytes (length tokens) (sym f) in
-        ap (with_rows rows tokens) (sound_call (entry_for e) setting bytes rows b n (Call.parse (entry_for e) setting bytes (tokens_of rows) b) k (rows_pass bytes s.few s.allowed) refl)
+        ap (with_rows rows tokens) (rw (← k, rows_pass bytes s.few s.allowed))

@@ -1,5 +1,5 @@
 -- The entries by number, in the terms of `definitions`. No part of the exported promise.
-use Rattle.std.specs.Prelude.{ℕ, List, length}
+use Rattle.std.specs.Prelude.{ℕ, ◌*◌, List, length, take, Option, Some, None}
 use Rattle.definitions.specs.Token.{tokens_of}
 use Rattle.definitions.specs.Lex.{lex_after, lex}
 use Rattle.definitions.specs.Call as Call
@@ -7,13 +7,26 @@ use Rattle.definitions.specs.Call.{Buffers, for, unknown}
 use Rattle.definitions.specs.Text.{TextResult, TextVerdict, sound, unsound, unchanged, with_rows, text_number, text_place, check_text, numbers_of}
 use Rattle.grammar.specs.declared.entry.Entrypoint.{Entrypoint}
 use Rattle.grammar.specs.Subprograms.{entry_for}
-use Rattle.dt_parser.specs.declared.entrypoint.Asked.{Asked}
-use Rattle.dt_parser.specs.declared.entrypoint.Asked.TheVariants.{For, Unknown}
+use Rattle.definitions.specs.Layout.{TREE_ROW}
+use Rattle.rows.specs.OnePass.{tree_rows_of, found}
+use Rattle.caret.specs.declared.Query.{Query}
+use Rattle.caret.specs.Asked.{query_of}
+use Rattle.call.specs.declared.Answer.{Answer}
+use Rattle.call.specs.declared.lent.Input.{Input}
+use Rattle.call.specs.declared.lent.Buffers.{Buffers as LentBuffers}
 
 -- the entry that a number asks for
-abbrev pub asked_of : Asked → Call.Asked
-asked_of (For e) = for (entry_for e)
-asked_of Unknown = unknown
+abbrev pub asked_of : Option Entrypoint → Call.Asked
+asked_of (Some e) = for (entry_for e)
+asked_of None = unknown
+
+-- the parse of an input for an entry, and the lent buffers as they are at entry
+abbrev pub parse_of : Entrypoint → Input → Buffers → Call.Result
+parse_of e input b = Call.parse (entry_for e) input.setting input.bytes.now (tokens_of input.tokens.now) b
+
+-- the rows that a query lists, of a text of so many bytes, in what an accepted parse wrote
+abbrev pub rows_listed : Query → Answer → ℕ → LentBuffers → List ℕ
+rows_listed q a size b = found (query_of q) size (tree_rows_of (take (a.tree_count * TREE_ROW) b.trees.now))
 
 -- a call over a text for an entry, once it is checked: the definitions' call after rows that pass every check
 unfoldable pub entry_checked : TextVerdict → Entrypoint → ℕ → List ℕ → List ℕ → List ℕ → Buffers → TextResult

@@ -9,25 +9,21 @@ use grammar::entry::Entrypoint;
 use layout::node_kind;
 
 // What a call's first number asks for.
-#[derive(Clone, Copy)]
-pub enum Asked {
-    For(Entrypoint),
-    Unknown,
-}
-
-pub fn entry_of(number: u32) -> Asked
+#[tactic(auto, unfolding(definitions::specs::Call::entry_of))]
+pub fn entry_of(number: u32) -> Option<Entrypoint>
     ensures { asked_of result ≡ Call.entry_of number }
 {
     match number {
-        1 => Asked::For(Entrypoint::SourceFile),
-        2 => Asked::For(Entrypoint::ReferenceNoamp),
-        3 => Asked::For(Entrypoint::PropValues),
-        4 => Asked::For(Entrypoint::Cells),
-        _ => Asked::Unknown,
+        1 => Some(Entrypoint::SourceFile),
+        2 => Some(Entrypoint::ReferenceNoamp),
+        3 => Some(Entrypoint::PropValues),
+        4 => Some(Entrypoint::Cells),
+        _ => None,
     }
 }
 
 // The kind of the root's node.
+#[tactic(auto, unfolding(definitions::specs::Grammar::root_kind))]
 pub fn root_kind(e: Entrypoint) -> u32
     ensures { result ≡ Grammar.root_kind (entry_for e) }
 {

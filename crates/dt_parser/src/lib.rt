@@ -5,55 +5,72 @@ mod entrypoint;
 pub mod query;
 pub mod text;
 
-ghost use Rattle.std.specs.Prelude.{◌≡◌};
-ghost use Rattle.definitions.specs.Token.{tokens_of};
+ghost use Rattle.std.specs.Prelude.{◌≡◌, ℕ, List};
 ghost use Rattle.definitions.specs.Refusal.{accepted};
 ghost use Rattle.definitions.specs.RowCauses.{check_input};
 ghost use Rattle.definitions.specs.Call as Call;
-ghost use Rattle.grammar.specs.Subprograms.{entry_for};
-ghost use Rattle.call.specs.Result.{at_entry, at_exit, result_of};
+ghost use Rattle.parser.specs.View.{view};
+ghost use Rattle.call.specs.Result.{at_entry, at_exit, held, SameSlices, result_of};
+ghost use Rattle.call.specs.Ended.{run_of};
+ghost use Rattle.dt_parser.specs.Asked.{parse_of};
 
-use crate::entrypoint::Asked;
-use call::Answer;
-use grammar::entry::Entrypoint;
+use crate::entrypoint::{entry_of, root_kind};
+use call::check_input::check;
+use call::lent::{Buffers, Input};
+use call::outcome::{Filled, Refusal, outcome};
+use call::{Answer, refused};
+use grammar::entry::{Entrypoint, run_entry};
 use layout::refusal::UNKNOWN_ENTRY;
+use parser::State;
+
+// How far a run came, or why it stopped.
+fn ended(s: State) -> Result<Filled, Refusal>
+    ensures { (codes events reports pool : List ℕ) → result ≡ run_of (view s codes events reports pool) }
+{
+    match s.refusal {
+        0 => Ok(Filled {
+            events: s.events_written,
+            reports: s.reports_written,
+            pool: s.pool_written,
+        }),
+        number => Err(Refusal {
+            number,
+            place: s.place.0,
+        }),
+    }
+}
 
 // `Call.parse`: the run of an entry, and what becomes of it.
-fn parse(
-    e: Entrypoint,
-    setting: u32,
-    bytes: &[u8],
-    tokens: &[u32],
-    events: &mut [u32],
-    trees: &mut [u32],
-    errors: &mut [u32],
-    reports: &mut [u32],
-    pool: &mut [u32],
-) -> Answer
-    requires { check_input bytes.now tokens.now ≡ accepted }
-    ensures { result_of result (at_exit events trees errors reports pool)
-        ≡ Call.parse (entry_for e) setting bytes.now (tokens_of tokens.now)
-        (at_entry events trees errors reports pool) }
+fn parse(e: Entrypoint, input: Input<'_>, buffers: &mut Buffers<'_>) -> Answer
+    requires { check_input input.bytes.now input.tokens.now ≡ accepted }
+    ensures same { SameSlices buffers.old buffers.new }
+    ensures parsed { result_of result (held buffers.new) ≡ parse_of e input.entry (held buffers.old) }
 {
-    let p = grammar::entry::run_entry(tokens, events, reports, pool, e);
-    let kind = entrypoint::root_kind(e);
-    let place = p.s.place;
-    call::outcome::outcome(
-        p.s.refusal,
-        place.0,
-        kind,
-        setting,
-        bytes,
-        tokens,
-        events,
-        p.s.events_written,
-        trees,
-        errors,
-        reports,
-        p.s.reports_written,
-        pool,
-        p.s.pool_written,
-    )
+    let p = run_entry(
+        input.tokens,
+        buffers.events,
+        buffers.reports,
+        buffers.pool,
+        e,
+    );
+    outcome(root_kind(e), ended(p.s), input, buffers)
+}
+
+// The whole call.
+#[tactic(auto, unfolding(definitions::specs::Call::call, definitions::specs::Call::asked, definitions::specs::Call::checked, definitions::specs::Refusal::number_of, definitions::specs::Refusal::place_of))]
+fn answer(entry: u32, input: Input<'_>, buffers: &mut Buffers<'_>) -> Answer
+    ensures same { SameSlices buffers.old buffers.new }
+    ensures ended { result_of result (held buffers.new)
+        ≡ Call.call entry input.entry.setting input.entry.bytes.now input.entry.tokens.now
+        (held buffers.old) }
+{
+    let Some(e) = entry_of(entry) else {
+        return refused(UNKNOWN_ENTRY, 0);
+    };
+    match check(input.bytes, input.tokens) {
+        Ok(()) => parse(e, input, buffers),
+        Err(refusal) => refusal,
+    }
 }
 
 // The whole call, for any numbers in the lent slices: the answer and each element of every buffer are what `call` of
@@ -73,19 +90,19 @@ pub fn dt_parse(
     ensures { result_of result (at_exit events trees errors reports pool)
         ≡ Call.call entry setting bytes.now tokens.now (at_entry events trees errors reports pool) }
 {
-    let asked = entrypoint::entry_of(entry);
-    match asked {
-        Asked::Unknown => call::refused(UNKNOWN_ENTRY, 0),
-        Asked::For(e) => {
-            let checked = call::check_input::check(bytes, tokens);
-            let sound = checked.number == 0;
-            if sound {
-                parse(
-                    e, setting, bytes, tokens, events, trees, errors, reports, pool,
-                )
-            } else {
-                checked
-            }
-        }
-    }
+    answer(
+        entry,
+        Input {
+            setting,
+            bytes,
+            tokens,
+        },
+        &mut Buffers {
+            events,
+            trees,
+            errors,
+            reports,
+            pool,
+        },
+    )
 }

@@ -4,109 +4,82 @@ ghost use Rattle.definitions.specs.Layout.{TREE_ROW};
 ghost use Rattle.definitions.specs.Token.{tokens_of};
 ghost use Rattle.definitions.specs.Refusal.{accepted};
 ghost use Rattle.definitions.specs.RowCauses.{check_input};
-ghost use Rattle.definitions.specs.Grammar.{SourceFile};
-ghost use Rattle.definitions.specs.Call as Call;
 ghost use Rattle.definitions.specs.Caret.{caret, range, listed, source_tree, with_list, query_call};
 ghost use Rattle.rows.specs.OnePass.{tree_rows_of, Sound};
 ghost use Rattle.caret.specs.Asked.{query_of};
-ghost use Rattle.call.specs.Result.{at_entry, at_exit, list_result_of};
-ghost use Rattle.listing.specs.Listed.{left_at_entry, left_at_exit, list_ends};
+ghost use Rattle.call.specs.Result.{at_entry, at_exit, held, SameSlices, list_result_of};
+ghost use Rattle.grammar.specs.declared.entry.Entrypoint.TheVariants.{SourceFile};
+ghost use Rattle.caret.specs.Walk.{laid};
+ghost use Rattle.dt_parser.specs.Asked.{parse_of, rows_listed};
 
 use crate::parse;
 use call::Answer;
 use call::buffer::clear;
+use call::check_input::check;
+use call::lent::{Buffers, Input};
 use call::list::ListAnswer;
 use caret::{Query, list_rows};
 use grammar::entry::Entrypoint;
 use layout::row::TREE_ROW;
 use listing::{finish, without_list};
 
-// The rows that a query lists, of an accepted parse; the answer is that of the parse.
-fn list_of(
+// Writes the rows that a query lists, of an accepted parse, as far as they fit, and says how many there are.
+fn write_list(
     query: Query,
     a: Answer,
     size: usize,
-    trees: &mut [u32],
-    errors: &mut [u32],
-    reports: &mut [u32],
-    pool: &mut [u32],
+    buffers: &Buffers<'_>,
     list: &mut [u32],
-) -> ListAnswer
-    requires { (a.tree_count * TREE_ROW ≤ length trees.old)
-        × Sound size (tree_rows_of (take (a.tree_count * TREE_ROW) trees.old)) }
-    ensures { list_result_of result list.new (left_at_exit trees errors reports pool)
-        ≡ list_ends (query_of query) a size list.old (left_at_entry trees errors reports pool) }
+) -> usize
+    requires { (a.tree_count * TREE_ROW ≤ length buffers.now.trees.now)
+        × Sound size (tree_rows_of (take (a.tree_count * TREE_ROW) buffers.now.trees.now)) }
+    ensures value { result ≡ length (rows_listed query a size buffers.now) }
+    ensures list_after { list.new ≡ laid (rows_listed query a size buffers.now) list.old }
 {
-    let numbers = a.tree_count * TREE_ROW;
-    let count = list_rows(query, size, &trees[..numbers], list);
-    finish(a, count, trees, errors, reports, pool, list)
+    list_rows(query, size, &buffers.trees[..a.tree_count * TREE_ROW], list)
 }
 
 // The query of an input that passed the checks.
 fn parse_and_list(
     query: Query,
-    setting: u32,
-    bytes: &[u8],
-    tokens: &[u32],
-    events: &mut [u32],
-    trees: &mut [u32],
-    errors: &mut [u32],
-    reports: &mut [u32],
-    pool: &mut [u32],
+    input: Input<'_>,
+    buffers: &mut Buffers<'_>,
     list: &mut [u32],
 ) -> ListAnswer
-    requires { check_input bytes.now tokens.now ≡ accepted }
-    ensures { list_result_of result list.new (at_exit events trees errors reports pool)
+    requires { check_input input.bytes.now input.tokens.now ≡ accepted }
+    ensures same { SameSlices buffers.old buffers.new }
+    ensures ended { list_result_of result list.new (held buffers.new)
         ≡ with_list
-        (listed (query_of query) (length bytes.now) (source_tree (tokens_of tokens.now)))
-        list.old (at_entry events trees errors reports pool)
-        (Call.parse SourceFile setting bytes.now (tokens_of tokens.now)
-        (at_entry events trees errors reports pool)) }
+        (listed (query_of query) (length input.entry.bytes.now)
+        (source_tree (tokens_of input.entry.tokens.now)))
+        list.old (held buffers.old) (parse_of SourceFile input.entry (held buffers.old)) }
 {
-    let a = parse(
-        Entrypoint::SourceFile,
-        setting,
-        bytes,
-        tokens,
-        events,
-        trees,
-        errors,
-        reports,
-        pool,
-    );
-    let parsed = a.number == 0;
-    if parsed {
-        return list_of(query, a, bytes.len(), trees, errors, reports, pool, list);
+    let a = parse(Entrypoint::SourceFile, input, buffers);
+    if a.is_accepted() {
+        let count = write_list(query, a, input.bytes.len(), buffers, list);
+        return finish(a, count, buffers, list);
     }
     clear(list, 0);
     without_list(a)
 }
 
 // The whole query.
+#[tactic(auto, unfolding(definitions::specs::Caret::query_call, definitions::specs::Caret::checked_query, definitions::specs::Refusal::number_of, definitions::specs::Refusal::place_of))]
 fn answer_query(
     query: Query,
-    setting: u32,
-    bytes: &[u8],
-    tokens: &[u32],
-    events: &mut [u32],
-    trees: &mut [u32],
-    errors: &mut [u32],
-    reports: &mut [u32],
-    pool: &mut [u32],
+    input: Input<'_>,
+    buffers: &mut Buffers<'_>,
     list: &mut [u32],
 ) -> ListAnswer
-    ensures { list_result_of result list.new (at_exit events trees errors reports pool)
-        ≡ query_call (query_of query) setting bytes.now tokens.now
-        (at_entry events trees errors reports pool) list.old }
+    ensures same { SameSlices buffers.old buffers.new }
+    ensures ended { list_result_of result list.new (held buffers.new)
+        ≡ query_call (query_of query) input.entry.setting input.entry.bytes.now
+        input.entry.tokens.now (held buffers.old) list.old }
 {
-    let checked = call::check_input::check(bytes, tokens);
-    let sound = checked.number == 0;
-    if sound {
-        return parse_and_list(
-            query, setting, bytes, tokens, events, trees, errors, reports, pool, list,
-        );
+    match check(input.bytes, input.tokens) {
+        Ok(()) => parse_and_list(query, input, buffers, list),
+        Err(refusal) => without_list(refusal),
     }
-    without_list(checked)
 }
 
 // What is under the caret, for any bytes, numbers and lent slices: the answer and each element of every buffer are what
@@ -130,14 +103,18 @@ pub fn dt_caret(
 {
     answer_query(
         Query::Caret(offset),
-        setting,
-        bytes,
-        tokens,
-        events,
-        trees,
-        errors,
-        reports,
-        pool,
+        Input {
+            setting,
+            bytes,
+            tokens,
+        },
+        &mut Buffers {
+            events,
+            trees,
+            errors,
+            reports,
+            pool,
+        },
         list,
     )
 }
@@ -162,14 +139,18 @@ pub fn dt_parts_in_range(
 {
     answer_query(
         Query::Range(start, end),
-        setting,
-        bytes,
-        tokens,
-        events,
-        trees,
-        errors,
-        reports,
-        pool,
+        Input {
+            setting,
+            bytes,
+            tokens,
+        },
+        &mut Buffers {
+            events,
+            trees,
+            errors,
+            reports,
+            pool,
+        },
         list,
     )
 }

@@ -1,53 +1,17 @@
 // The exported call over a text: its tokens are read into a lent buffer, and parsed.
-ghost use Rattle.std.specs.Prelude.{◌≡◌, ◌≤◌, length, take};
-ghost use Rattle.definitions.specs.Token.{tokens_of};
-ghost use Rattle.definitions.specs.Refusal.{accepted};
-ghost use Rattle.definitions.specs.RowCauses.{check_input};
-ghost use Rattle.definitions.specs.Call as Call;
+ghost use Rattle.std.specs.Prelude.{◌≡◌};
 ghost use Rattle.definitions.specs.Text.{text_call};
-ghost use Rattle.grammar.specs.Subprograms.{entry_for};
-ghost use Rattle.call.specs.Result.{at_entry, at_exit, result_of, text_result_of};
+ghost use Rattle.call.specs.Result.{at_entry, at_exit, held, SameSlices, text_result_of};
 ghost use Rattle.dt_parser.specs.Asked.{entry_text};
 
-use crate::entrypoint::Asked;
-use crate::{entrypoint, parse};
-use call::Answer;
+use crate::entrypoint::entry_of;
+use crate::parse;
+use call::lent::{Buffers, Input};
 use call::text::{TextAnswer, finish, refused_text};
 use grammar::entry::Entrypoint;
 use layout::refusal;
 use lexer::check::Checked;
 use lexer::read::read;
-
-// The parse of the rows in the first so many numbers of a buffer.
-fn parse_front(
-    e: Entrypoint,
-    setting: u32,
-    bytes: &[u8],
-    tokens: &[u32],
-    numbers: usize,
-    events: &mut [u32],
-    trees: &mut [u32],
-    errors: &mut [u32],
-    reports: &mut [u32],
-    pool: &mut [u32],
-) -> Answer
-    requires { (numbers ≤ length tokens.now) × (check_input bytes.now (take numbers tokens.now) ≡ accepted) }
-    ensures { result_of result (at_exit events trees errors reports pool)
-        ≡ Call.parse (entry_for e) setting bytes.now (tokens_of (take numbers tokens.now))
-        (at_entry events trees errors reports pool) }
-{
-    parse(
-        e,
-        setting,
-        bytes,
-        &tokens[..numbers],
-        events,
-        trees,
-        errors,
-        reports,
-        pool,
-    )
-}
 
 // The call for an entry.
 fn parse_entry(
@@ -55,26 +19,48 @@ fn parse_entry(
     setting: u32,
     bytes: &[u8],
     tokens: &mut [u32],
-    events: &mut [u32],
-    trees: &mut [u32],
-    errors: &mut [u32],
-    reports: &mut [u32],
-    pool: &mut [u32],
+    buffers: &mut Buffers<'_>,
 ) -> TextAnswer
-    ensures { text_result_of result tokens.new (at_exit events trees errors reports pool)
-        ≡ entry_text e setting bytes.now tokens.old (at_entry events trees errors reports pool) }
+    ensures same { SameSlices buffers.old buffers.new }
+    ensures ended { text_result_of result tokens.new (held buffers.new)
+        ≡ entry_text e setting bytes.now tokens.old (held buffers.old) }
 {
-    let checked = read(bytes, tokens);
-    match checked {
+    match read(bytes, tokens) {
         Checked::TooLong => refused_text(refusal::TOO_LONG, 0),
         Checked::HighByte(at) => refused_text(refusal::HIGH_BYTE, at),
         Checked::Directive(at) => refused_text(refusal::DIRECTIVE, at),
         Checked::Sound(numbers) => {
-            let a = parse_front(
-                e, setting, bytes, tokens, numbers, events, trees, errors, reports, pool,
+            let tokens_read = &tokens[..numbers];
+            let a = parse(
+                e,
+                Input {
+                    setting,
+                    bytes,
+                    tokens: tokens_read,
+                },
+                buffers,
             );
             finish(a, tokens, numbers)
         }
+    }
+}
+
+// The whole call over a text.
+#[tactic(auto, unfolding(definitions::specs::Text::text_call, definitions::specs::Text::asked_text, definitions::specs::Text::text_number, definitions::specs::Text::text_place))]
+fn answer_text(
+    entry: u32,
+    setting: u32,
+    bytes: &[u8],
+    tokens: &mut [u32],
+    buffers: &mut Buffers<'_>,
+) -> TextAnswer
+    ensures same { SameSlices buffers.old buffers.new }
+    ensures ended { text_result_of result tokens.new (held buffers.new)
+        ≡ text_call entry setting bytes.now tokens.old (held buffers.old) }
+{
+    match entry_of(entry) {
+        Some(e) => parse_entry(e, setting, bytes, tokens, buffers),
+        None => refused_text(refusal::UNKNOWN_ENTRY, 0),
     }
 }
 
@@ -95,11 +81,17 @@ pub fn dt_parse_text(
     ensures { text_result_of result tokens.new (at_exit events trees errors reports pool)
         ≡ text_call entry setting bytes.now tokens.old (at_entry events trees errors reports pool) }
 {
-    let asked = entrypoint::entry_of(entry);
-    match asked {
-        Asked::Unknown => refused_text(refusal::UNKNOWN_ENTRY, 0),
-        Asked::For(e) => parse_entry(
-            e, setting, bytes, tokens, events, trees, errors, reports, pool,
-        ),
-    }
+    answer_text(
+        entry,
+        setting,
+        bytes,
+        tokens,
+        &mut Buffers {
+            events,
+            trees,
+            errors,
+            reports,
+            pool,
+        },
+    )
 }

@@ -7,55 +7,34 @@ use mathlib.Core.List.{List, [], ◌∷◌}
 use lib.Dec.{leb, eqb}
 use lib.ListN.{length, take}
 use borrow.Author.Tests.{eqb-true, leb-true}
+use Rattle.std.proofs.lemmas.Grind.{common_steps}
 use Rattle.definitions.specs.Layout.{TREE_ROW, NO_TREE_ROOM}
 use Rattle.definitions.specs.Token.{tokens_of}
 use Rattle.definitions.specs.Grammar.{SourceFile}
-use Rattle.definitions.specs.Refusal.{Verdict, accepted, no_tree_room, number_of, place_of}
+use Rattle.definitions.specs.Refusal.{accepted, no_tree_room, number_of, place_of}
 use Rattle.definitions.specs.RowCauses.{check_input}
 use Rattle.definitions.specs.Call.{Buffers, Result, cleared, zeros, written, parse, call}
-use Rattle.definitions.specs.Caret.{Query, listed, source_tree, ListResult, listless, with_list, checked_query, query_call}
+use Rattle.definitions.specs.Caret.{Query, listed, source_tree, ListResult, listless, with_list}
 use Rattle.rows.specs.OnePass.{tree_rows_of, found, Sound}
 use Rattle.rows.proofs.Written.{rows_of}
 use Rattle.queries.proofs.SoundRows.{FileRows, file_rows}
 use Rattle.queries.proofs.Parsed.{parse_is_call, Left, what_is_left, rows_fit, rows_read}
 use Rattle.caret.specs.Walk.{laid}
 use Rattle.caret.proofs.Chains.{laid_length}
-use Rattle.refinement.specs.Ends.{wiped}
+use Rattle.refinement.specs.Ends.{wiped, SameLengths}
 use Rattle.call.specs.declared.Answer.{Answer}
 use Rattle.call.specs.declared.list.ListAnswer.{ListAnswer}
-use Rattle.call.specs.Checked.{Refused}
 use Rattle.call.specs.Ended.{refused_with}
 use Rattle.call.specs.Result.{answer_of, buffers_of, result_of, list_result_of}
-use Rattle.call.proofs.TextRows.{rows_and_zeros, all_zeros}
+use Rattle.refinement.proofs.Wiped.{wiped_whole, wiped_written}
 use Rattle.listing.specs.Listed.{counted, ended, list_ends}
 
 -- a list that fits stands whole at the front of its buffer
 front_laid : (l b : List ℕ) → length l ≤ length b → take (length l) (laid l b) ≡ l
 unfolding laid
-front_laid [] b h = none_taken b
-  where
-    none_taken : (b : List ℕ) → take 0 b ≡ []
-    none_taken [] = refl
-    none_taken (x ∷ b) = refl
+front_laid [] b h = grind (arith, common_steps)
 front_laid (x ∷ l) [] h = absurd (omega (arith, h))
 front_laid (x ∷ l) (y ∷ b) h = ap (x ∷◌) (front_laid l b (omega (arith, h)))
-
--- the events' buffer beside the others
-abbrev with_events : List ℕ → ListResult → ListResult
-with_events e x =
-    record {
-      answer = x.answer;
-      list_count = x.list_count;
-      list = x.list;
-      buffers = record { events = e; trees = x.buffers.trees; errors = x.buffers.errors; reports = x.buffers.reports; pool = x.buffers.pool };
-    }
-
--- what a parse was lent, and what it left; both as long
-pub record SameLengths (b c : Buffers) : Type 0 where
-  pub trees : length c.trees ≡ length b.trees
-  pub errors : length c.errors ≡ length b.errors
-  pub reports : length c.reports ≡ length b.reports
-  pub pool : length c.pool ≡ length b.pool
 
 module _ (q : Query) (setting : ℕ) (bytes tokens : List ℕ) (b : Buffers) (list : List ℕ) (ok : check_input bytes tokens ≡ accepted)
     (a : Answer) (c : Buffers) (parsed : result_of a c ≡ parse SourceFile setting bytes (tokens_of tokens) b) where
@@ -71,7 +50,7 @@ module _ (q : Query) (setting : ℕ) (bytes tokens : List ℕ) (b : Buffers) (li
   unfolding with_list
   parse_refused x list' n e f =
       (λ i. list_result_of (e i) (f i) c)
-      ∙ ap (λ (l : List ℕ). list_result_of (counted a 0) l c) (all_zeros list list refl)
+      ∙ ap (λ (l : List ℕ). list_result_of (counted a 0) l c) (wiped_whole list list refl)
       ∙ sym
       (ap
       (λ (t : Bool).
@@ -115,31 +94,28 @@ module _ (q : Query) (setting : ℕ) (bytes tokens : List ℕ) (b : Buffers) (li
     events_zero = ap (λ (r : Result). r.buffers.events) left.returns
 
     by_room : (s : SameLengths b c) (t : Bool) → leb (length lists) (length list) ≡ t
-        → with_events c.events (cond t (list_result_of (counted a (length lists)) (wiped (length lists) (laid lists list)) (buffers_of [] c.trees c.errors c.reports c.pool))
-        (list_result_of (counted (refused_with NO_TREE_ROOM 0) 0) (wiped 0 (laid lists list)) (buffers_of [] (wiped 0 c.trees) (wiped 0 c.errors) (wiped 0 c.reports) (wiped 0 c.pool))))
+        → cond t (list_result_of (counted a (length lists)) (wiped (length lists) (laid lists list)) c)
+        (list_result_of (counted (refused_with NO_TREE_ROOM 0) 0) (wiped 0 (laid lists list)) (buffers_of c.events (wiped 0 c.trees) (wiped 0 c.errors) (wiped 0 c.reports) (wiped 0 c.pool)))
         ≡ cond t (record { answer = answer_of a; list_count = length lists; list = written lists list; buffers = c }) (listless (cleared no_tree_room b) (zeros list))
     unfolding number_of place_of
     by_room s true e =
         ap (λ (l : List ℕ). list_result_of (counted a (length lists)) l c)
-        (rows_and_zeros lists list (laid lists list) (length lists) (front_laid lists list (leb-true _ _ e)) refl (laid_length lists list))
+        (wiped_written lists list (laid lists list) (length lists) (laid_length lists list) refl (front_laid lists list (leb-true _ _ e)))
     by_room s false e =
         λ i.
-        list_result_of (counted (refused_with NO_TREE_ROOM 0) 0) (all_zeros list (laid lists list) (laid_length lists list) i)
-        (buffers_of (events_zero i) (all_zeros b.trees c.trees s.trees i) (all_zeros b.errors c.errors s.errors i) (all_zeros b.reports c.reports s.reports i) (all_zeros b.pool c.pool s.pool i))
+        list_result_of (counted (refused_with NO_TREE_ROOM 0) 0) (wiped_whole list (laid lists list) (laid_length lists list) i)
+        (buffers_of (events_zero i) (wiped_whole b.trees c.trees s.trees i) (wiped_whole b.errors c.errors s.errors i) (wiped_whole b.reports c.reports s.reports i) (wiped_whole b.pool c.pool s.pool i))
 
     -- accepted: its list is kept, or nothing is
-    pub parse_listed : (s : SameLengths b c) (x : ListAnswer) (list' : List ℕ) (d : Buffers) → d.events ≡ c.events
-        → list_result_of x list' (buffers_of [] d.trees d.errors d.reports d.pool) ≡ list_ends q a (length bytes) list (buffers_of [] c.trees c.errors c.reports c.pool)
-        → list_result_of x list' d ≡ wanted (parse SourceFile setting bytes (tokens_of tokens) b)
+    pub parse_listed : (s : SameLengths b c) (y : ListResult) → y ≡ list_ends q a (length bytes) list c → y ≡ wanted (parse SourceFile setting bytes (tokens_of tokens) b)
     unfolding with_list
-    parse_listed s x list' d ev e =
-        ap (λ (l : List ℕ). list_result_of x list' (buffers_of l d.trees d.errors d.reports d.pool)) ev
-        ∙ ap (with_events c.events) (e ∙ ap (λ (l : List ℕ). ended a (length l) (laid l list) (buffers_of [] c.trees c.errors c.reports c.pool)) found_is)
+    parse_listed s y e =
+        e
+        ∙ ap (λ (l : List ℕ). ended a (length l) (laid l list) c) found_is
         ∙ ap
         (λ (k : ℕ).
-        with_events c.events
-        (cond (leb (length lists) k) (list_result_of (counted a (length lists)) (wiped (length lists) (laid lists list)) (buffers_of [] c.trees c.errors c.reports c.pool))
-        (list_result_of (counted (refused_with NO_TREE_ROOM 0) 0) (wiped 0 (laid lists list)) (buffers_of [] (wiped 0 c.trees) (wiped 0 c.errors) (wiped 0 c.reports) (wiped 0 c.pool)))))
+        cond (leb (length lists) k) (list_result_of (counted a (length lists)) (wiped (length lists) (laid lists list)) c)
+        (list_result_of (counted (refused_with NO_TREE_ROOM 0) 0) (wiped 0 (laid lists list)) (buffers_of c.events (wiped 0 c.trees) (wiped 0 c.errors) (wiped 0 c.reports) (wiped 0 c.pool))))
         (laid_length lists list)
         ∙ by_room s (leb (length lists) (length list)) refl
         ∙ sym
@@ -150,18 +126,3 @@ module _ (q : Query) (setting : ℕ) (bytes tokens : List ℕ) (b : Buffers) (li
         (listless (result_of a c) (zeros list)))
         n)
         ∙ ap wanted parsed
-
--- ---------------------------------------------------------------- the checks before it
-
-module _ (q : Query) (setting : ℕ) (bytes tokens : List ℕ) (b : Buffers) (list : List ℕ) where
-  pub sound_query : check_input bytes tokens ≡ accepted
-      → with_list (listed q (length bytes) (source_tree (tokens_of tokens))) list b (parse SourceFile setting bytes (tokens_of tokens) b) ≡ query_call q setting bytes tokens b list
-  unfolding query_call checked_query
-  sound_query ok = sym (ap (λ (v : Verdict). checked_query v q setting bytes tokens b list) ok)
-
-  pub refused_query : (a : Answer) (x : ListAnswer) → Refused a bytes tokens → x ≡ counted a 0 → list_result_of x list b ≡ query_call q setting bytes tokens b list
-  unfolding query_call checked_query
-  refused_query a x r e =
-      ap (λ (y : ListAnswer). list_result_of y list b) e
-      ∙ ap (λ (y : _). listless (record { answer = y; buffers = b }) list) r.answer
-      ∙ sym (ap (λ (v : Verdict). checked_query v q setting bytes tokens b list) r.verdict)

@@ -1,3 +1,2 @@
--- The end of a query: `Fits` has the two ends of a list, `Ends` the whole of a query, put together as the code does.
-pub mod Fits
+-- `Ends` has the whole of a query, put together as the code does.
 pub mod Ends

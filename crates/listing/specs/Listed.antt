@@ -1,5 +1,5 @@
 -- How a query ends. No part of the exported promise.
-use Rattle.std.specs.Prelude.{ℕ, ◌*◌, cond, List, [], leb, length, take}
+use Rattle.std.specs.Prelude.{ℕ, ◌*◌, cond, List, leb, length, take}
 use Rattle.definitions.specs.Layout.{TREE_ROW, NO_TREE_ROOM}
 use Rattle.definitions.specs.Call.{Buffers}
 use Rattle.definitions.specs.Caret.{Query, ListResult}
@@ -9,14 +9,7 @@ use Rattle.refinement.specs.Ends.{wiped}
 use Rattle.call.specs.declared.Answer.{Answer}
 use Rattle.call.specs.declared.list.ListAnswer.{ListAnswer}
 use Rattle.call.specs.Ended.{refused_with}
-use Rattle.call.specs.Result.{Lent, buffers_of, list_result_of}
-
--- the lent buffers that a parse leaves something in; its events are zero, and they are not lent again
-abbrev pub left_at_entry : Lent → Lent → Lent → Lent → Buffers
-left_at_entry trees errors reports pool = buffers_of [] trees.entry.now errors.entry.now reports.entry.now pool.entry.now
-
-abbrev pub left_at_exit : Lent → Lent → Lent → Lent → Buffers
-left_at_exit trees errors reports pool = buffers_of [] trees.exit.now errors.exit.now reports.exit.now pool.exit.now
+use Rattle.call.specs.Result.{buffers_of, list_result_of}
 
 abbrev pub counted : Answer → ℕ → ListAnswer
 counted a n = record { answer = a; list_count = n }

@@ -27,7 +27,7 @@ use Rattle.machine.specs.Machine.{Machine}
 use Rattle.machine.specs.Encode.{encode}
 use Rattle.machine.specs.Outcome.{onto, StartsWith, NotRefused, Refused, Ends}
 use Rattle.refinement.proofs.Machine.{entry_ends}
-use Rattle.sink.specs.declared.Sunk.{Sunk}
+use Rattle.sink.specs.Sunk.{Sunk}
 use Rattle.sink.specs.Promise.{Small, enough, WrittenOut, Placed}
 use Rattle.sink.proofs.Runs.{entry_chained}
 use Rattle.labels.specs.Model.{Names}

@@ -1,7 +1,7 @@
 -- The last step before the exported contract: the machine's end, the sink's promise and that of the Names' reports,
 -- joined. What they leave in the lent buffers, cleared after what is written, is the result of `parse` in
 -- `definitions`. A device of the proofs, and not a part of any exported promise.
-use Rattle.std.specs.Prelude.{ℕ, ◌-◌, ◌*◌, ◌/◌, ◌≤◌, ◌≡◌, Ok, Err, List, ◌++◌, length, take, replicate}
+use Rattle.std.specs.Prelude.{ℕ, ◌-◌, ◌*◌, ◌/◌, ◌≤◌, ◌≡◌, List, ◌++◌, Ok, Err, length, take, replicate}
 use Rattle.basics.specs.Word.{low}
 use Rattle.definitions.specs.Layout.{TREE_ROW, ERROR_ROW, REPORT_ROW, MOST_OPEN_CALLS, NO_REPORT_ROOM}
 use Rattle.definitions.specs.Token.{tokens_of}
@@ -12,8 +12,7 @@ use Rattle.definitions.specs.Call.{Buffers, Answer, Result, parse}
 use Rattle.machine.specs.Machine.{Machine}
 use Rattle.machine.specs.Walk.{unlabelled, walk_prog}
 use Rattle.machine.specs.Outcome.{fresh}
-use Rattle.sink.specs.declared.Sunk.{Sunk}
-use Rattle.sink.specs.declared.Sunk.TheVariants.{Written, NoRoom}
+use Rattle.sink.specs.Sunk.{Sunk}
 use Rattle.sink.specs.Promise as Sink
 use Rattle.labels.specs.Model.{Names}
 use Rattle.labels.specs.Promise as Labels
@@ -43,9 +42,9 @@ refused_at n p = record { number = n; place = p; tree_count = 0; error_count = 0
 
 -- the answer after the sink, with so many numbers of reports and so many expectations
 abbrev pub sunk_answer : Sunk → ℕ → ℕ → Answer
-sunk_answer (Written t e) r p =
-    record { number = 0; place = 0; tree_count = t; error_count = e; report_count = r / REPORT_ROW; expectation_count = p }
-sunk_answer NoRoom r p = refused_at (number_of no_tree_room) (place_of no_tree_room)
+sunk_answer (Ok w) r p =
+    record { number = 0; place = 0; tree_count = w.rows; error_count = w.errors; report_count = r / REPORT_ROW; expectation_count = p }
+sunk_answer (Err e) r p = refused_at (number_of no_tree_room) (place_of no_tree_room)
 
 -- the answer after the parser, which refused nothing, the sink, and the Names' reports: 7 comes before 8
 abbrev pub last_answer : Sunk → Names → Machine → Answer

@@ -15,6 +15,7 @@ use Rattle.definitions.specs.Event.{forward, events as events_of}
 use Rattle.definitions.specs.Parent.{tree_row}
 use Rattle.machine.specs.Encode.{start_tag, encode}
 use Rattle.sink.specs.Encode.{Alone, Chained}
+use Rattle.layout.specs.Rows.{field as row_field}
 use Rattle.sink_rows.specs.Rows.{put, field, link, linksN, links, open_rows}
 use Rattle.sink.specs.Model.{start_on}
 use Rattle.sink_rows.proofs.Chains.{links_end}
@@ -140,12 +141,12 @@ module _ (events : List ℕ) where
   ev_inside i x e h = omega (arith, length-drop (i * EVENT_ROW) events, ap length e)
 
   pub ev_field : (i j : ℕ) (x : List ℕ) → drop (i * EVENT_ROW) events ≡ x → EVENT_ROW ≤ length x → field events i j ≡ get_or x j 0
-  unfolding field
+  unfolding row_field
   ev_field i j x e h = rw (lt-ltb i (length events / EVENT_ROW) (ev_inside i x e h)) (sym (get_or-drop (i * EVENT_ROW) events j 0) ∙ ap (λ l. get_or l j 0) e)
 
   -- an event that is not a linked start
   pub ev_other : (i : ℕ) (x : List ℕ) → drop (i * EVENT_ROW) events ≡ x → (get_or x 0 0 ≡ LINKED_START_NODE → ⊥) → field events i EVENT_TAG ≡ LINKED_START_NODE → ⊥
-  unfolding field
+  unfolding row_field
   ev_other i x e h = go (ltb i (length events / EVENT_ROW))
     where
       go : (b : Bool) → cond b (get_or events (i * EVENT_ROW + EVENT_TAG) 0) 0 ≡ LINKED_START_NODE → ⊥
@@ -165,7 +166,7 @@ module _ (events : List ℕ) where
   Rest l j (k ∷ ks) = (l ≡ true) × ((field events j EVENT_TAG ≡ LINKED_START_NODE) × Chain j k ks)
 
   field_inside : (m : ℕ) → field events m EVENT_TAG ≡ LINKED_START_NODE → m < length events / EVENT_ROW
-  unfolding field
+  unfolding row_field
   field_inside m h = go (ltb m (length events / EVENT_ROW)) refl h
     where
       go : (b : Bool) → ltb m (length events / EVENT_ROW) ≡ b → cond b (get_or events (m * EVENT_ROW + EVENT_TAG) 0) 0 ≡ LINKED_START_NODE → m < length events / EVENT_ROW
@@ -188,7 +189,7 @@ module _ (events : List ℕ) where
 
   chain_links : (ks : List ℕ) (j k n : ℕ) → Chain j k ks → length ks ≤ n → linksN n events j ≡ length ks
   unfolding linksN
-  chain_links [] j k n c h = links_end n events j c.1
+  chain_links [] j k n c h = links_end events j n c.1
   chain_links (x ∷ ks) j k zero c h = absurd (omega arith)
   chain_links (x ∷ ks) j k (suc n) c h = rw (lt-ltb 0 (link events j) c.1.0, chain_links ks (j + link events j) x n c.1.1 (omega arith)) (omega arith)
 

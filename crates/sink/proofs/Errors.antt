@@ -5,8 +5,7 @@ use mathlib.Core.List.{List, [], ◌∷◌, ◌++◌, append_assoc, append-nil}
 use mathlib.Core.Path.{◌≡◌, refl, sym, ◌∙◌, ap}
 use mathlib.Core.Bool.{Bool, true, false, cond}
 use lib.ListN.{length, drop, length-append, length-drop}
-use lib.Seq.{sets-eq, take_at, drop_at, drop-drop}
-use borrow.Author.Tests.{le-leb}
+use lib.Seq.{drop-drop}
 use Rattle.basics.specs.Word.{low}
 use Rattle.basics.proofs.TokenRows.{tokens_length}
 use Rattle.definitions.specs.Layout.{ERROR_ROW, TWO_TO_32}
@@ -14,7 +13,7 @@ use Rattle.definitions.specs.Token.{Token, tokens_of, is_error, byte_count}
 use Rattle.definitions.specs.Place.{lexical_errors}
 use Rattle.laws.specs.Lossless.{errors_in}
 use Rattle.sink_tokens.specs.Tokens.{put_error, Log, log, logged, errorsN, errors_on}
-use Rattle.sink.proofs.Grow.{low_small}
+use Rattle.sink.proofs.Grow.{low_small, row_seam}
 use Rattle.sink.proofs.Steps.{From, from_kind, from_len, from_past}
 
 abbrev pub found : Log → ℕ
@@ -30,13 +29,7 @@ errors_few (t ∷ ts) = go (errors_few ts) (is_error t.kind)
     go h false = omega arith
 
 put_error_seam : (row : ℕ) (t r x : List ℕ) → length t ≡ row * ERROR_ROW → length r ≡ ERROR_ROW → ERROR_ROW ≤ length x → put_error row r (t ++ x) ≡ t ++ (r ++ drop ERROR_ROW x)
-unfolding put_error
-put_error_seam row t r x e n h =
-    let at = row * ERROR_ROW in
-    let fits : at + ERROR_ROW ≤ length (t ++ x) = omega (arith, length-append t x) in
-    let rest : drop (at + ERROR_ROW) (t ++ x) ≡ drop ERROR_ROW x = sym (drop-drop ERROR_ROW at (t ++ x)) ∙ ap (λ l. drop ERROR_ROW l) (drop_at t x at e) in
-    rw (le-leb (at + ERROR_ROW) (length (t ++ x)) fits)
-    (sets-eq r (t ++ x) at (rw n fits) ∙ rw (n, rest, take_at t x at e, append_assoc t r (drop ERROR_ROW x)))
+put_error_seam row t r x e n h = row_seam ERROR_ROW (row * ERROR_ROW) t r x e n h
 
 module _ (tokens : List ℕ) where
   step : (t : Token) (ts : List Token) (at b : ℕ) (x : Log) → From tokens at (t ∷ ts)

@@ -4,6 +4,7 @@ use native.Mathlib.Nat.{mod-eq_of_lt}
 use Prim.Native.Nat.{ℕ, ◌+◌, ◌*◌, ◌≤◌, ◌<◌}
 use mathlib.Core.List.{List, [], ◌++◌, append_assoc, append-nil}
 use mathlib.Core.Path.{◌≡◌, refl, sym, ◌∙◌, ap}
+use mathlib.Core.Bool.{true}
 use lib.ListN.{length, get_or, drop, length-append, length-drop}
 use lib.Seq.{sets-eq, take_at, drop_at, drop-drop, get_or-append-add}
 use borrow.Author.Tests.{le-leb}
@@ -13,6 +14,8 @@ use Rattle.definitions.specs.Token.{Token, byte_count}
 use Rattle.definitions.specs.Place.{Tree, nil, leaf, ◌⊕◌, width, count, row_count}
 use Rattle.definitions.specs.Parent.{tree_row, rows_under}
 use Rattle.laws.proofs.Tree.{rows_beside, row_count_beside, width_beside, count_beside}
+use Rattle.layout.specs.Rows.{fits, put_row, field as row_field}
+use Rattle.layout.proofs.Room.{fits_sum, row_inside}
 use Rattle.sink_rows.specs.Rows.{put, tree_field}
 use Rattle.sink.specs.Model.{On, on, moved, leaf_on}
 use Rattle.laws.proofs.Decode.{rows_length}
@@ -106,20 +109,22 @@ fits_back f g s r =
 pub low_small : (x : ℕ) → x < TWO_TO_32 → low x ≡ x
 low_small x h = mod-eq_of_lt h
 
+pub row_seam : (n at : ℕ) (t r x : List ℕ) → length t ≡ at → length r ≡ n → n ≤ length x → put_row n at r (t ++ x) ≡ t ++ (r ++ drop n x)
+unfolding put_row
+row_seam n at t r x e l h =
+    let inside : at + n ≤ length (t ++ x) = omega (arith, length-append t x) in
+    let fit : fits (length (t ++ x)) at n ≡ true = fits_sum (length (t ++ x)) at n ∙ le-leb (at + n) (length (t ++ x)) inside in
+    let rest : drop (at + n) (t ++ x) ≡ drop n x = sym (drop-drop n at (t ++ x)) ∙ ap (λ l. drop n l) (drop_at t x at e) in
+    rw fit (sets-eq r (t ++ x) at (rw l inside) ∙ rw (l, rest, take_at t x at e, append_assoc t r (drop n x)))
+
 pub put_seam : (row : ℕ) (t r x : List ℕ) → length t ≡ row * TREE_ROW → length r ≡ TREE_ROW → TREE_ROW ≤ length x → put row r (t ++ x) ≡ t ++ (r ++ drop TREE_ROW x)
-unfolding put
-put_seam row t r x e n h =
-    let at = row * TREE_ROW in
-    let fits : at + TREE_ROW ≤ length (t ++ x) = omega (arith, length-append t x) in
-    let rest : drop (at + TREE_ROW) (t ++ x) ≡ drop TREE_ROW x = sym (drop-drop TREE_ROW at (t ++ x)) ∙ ap (λ l. drop TREE_ROW l) (drop_at t x at e) in
-    rw (le-leb (at + TREE_ROW) (length (t ++ x)) fits)
-    (sets-eq r (t ++ x) at (rw n fits) ∙ rw (n, rest, take_at t x at e, append_assoc t r (drop TREE_ROW x)))
+put_seam row t r x e n h = row_seam TREE_ROW (row * TREE_ROW) t r x e n h
 
 pub field_seam : (row j : ℕ) (t x : List ℕ) → length t ≡ row * TREE_ROW → TREE_ROW ≤ length x → tree_field row j (t ++ x) ≡ get_or x j 0
-unfolding tree_field
+unfolding row_field
 field_seam row j t x e h =
-    let fits : row * TREE_ROW + TREE_ROW ≤ length (t ++ x) = omega (arith, length-append t x) in
-    rw (le-leb (row * TREE_ROW + TREE_ROW) (length (t ++ x)) fits) (rw (← e) (get_or-append-add t x j 0))
+    let inside : row * TREE_ROW + TREE_ROW ≤ length (t ++ x) = omega (arith, length-append t x) in
+    rw (← row_inside TREE_ROW (length (t ++ x)) row (omega arith), le-leb (row * TREE_ROW + TREE_ROW) (length (t ++ x)) inside) (rw (← e) (get_or-append-add t x j 0))
 
 -- ---------------------------------------------------------------- a leaf
 

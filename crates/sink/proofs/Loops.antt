@@ -2,7 +2,7 @@
 use native.Mathlib.Omega.{arith}
 use Prim.Native.Nat.{ℕ, zero, suc, ◌+◌, ◌-◌, ◌/◌, ◌≤◌, ◌<◌}
 use mathlib.Core.List.{List}
-use mathlib.Core.Path.{◌≡◌, refl, sym, ◌∙◌, ap}
+use mathlib.Core.Path.{◌≡◌, refl, ◌∙◌}
 use mathlib.Core.Bool.{Bool, true, false, false≢true}
 use lib.ListN.{length}
 use lib.Dec.{ltb}
@@ -51,20 +51,12 @@ trivia_done tokens x h = go (length tokens / TOKEN_ROW - (sink_of x).cursor)
     go zero = refl
     go (suc n) = rw (h, triviaN)
 
-pub trivia_again : (tokens : List ℕ) (x y g : On) → y ≡ token_on tokens x → trivia_here tokens (sink_of x).cursor ≡ true → trivia_on tokens x ≡ g → trivia_on tokens y ≡ g
-trivia_again tokens x y g e h p = ap (λ v. trivia_on tokens v) e ∙ trivia_more tokens x h ∙ p
-
 -- ---------------------------------------------------------------- events
 
-pub events_again : (n : ℕ) (tokens events : List ℕ) (i : ℕ) (x y g : On) → y ≡ event_on tokens events i x → i < n → eventsN (n - i) tokens events i x ≡ g → eventsN (n - (i + 1)) tokens events (i + 1) y ≡ g
+pub events_more : (n : ℕ) (tokens events : List ℕ) (i : ℕ) (x : On) → i < n → eventsN (n - (i + 1)) tokens events (i + 1) (event_on tokens events i x) ≡ eventsN (n - i) tokens events i x
 unfolding eventsN
-events_again n tokens events i x y g e h p =
-    let l : n - i ≡ suc (n - (i + 1)) = omega arith in
-    ap (λ v. eventsN (n - (i + 1)) tokens events (i + 1) v) e ∙ sym (ap (λ k. eventsN k tokens events i x) l) ∙ p
+events_more n tokens events i x h = let l : n - i ≡ suc (n - (i + 1)) = omega arith in rw l
 
-pub events_end : (n : ℕ) (tokens events : List ℕ) (i : ℕ) (x : On) → n ≤ i → eventsN (n - i) tokens events i x ≡ x
+pub events_done : (n : ℕ) (tokens events : List ℕ) (i : ℕ) (x : On) → n ≤ i → eventsN (n - i) tokens events i x ≡ x
 unfolding eventsN
-events_end n tokens events i x h = let l : n - i ≡ 0 = omega arith in rw l
-
-pub events_begin : (n : ℕ) (tokens events : List ℕ) (x : On) → eventsN (n - 0) tokens events 0 x ≡ eventsN n tokens events 0 x
-events_begin n tokens events x = let l : n - 0 ≡ n = omega arith in ap (λ k. eventsN k tokens events 0 x) l
+events_done n tokens events i x h = let l : n - i ≡ 0 = omega arith in rw l

@@ -15,8 +15,7 @@ use Rattle.definitions.specs.Place.{nil, subtree, ◌⊕◌, lead, after, place,
 use Rattle.definitions.specs.Parent.{rows, tree_row}
 use Rattle.laws.specs.Lossless.{errors_in}
 use Rattle.basics.proofs.Tests.{and_left, and_right}
-use Rattle.sink.specs.declared.Sunk.{Sunk}
-use Rattle.sink.specs.declared.Sunk.TheVariants.{Written, NoRoom}
+use Rattle.sink.specs.Sunk.{Sunk, written, no_room}
 use Rattle.machine.specs.Encode.{encode}
 use Rattle.sink.specs.Encode.{Chained}
 use Rattle.sink_tokens.specs.Tokens.{Log, log, errors_on}
@@ -46,11 +45,11 @@ abbrev errors_of : Finished → List ℕ
 errors_of (finished a t e) = e
 
 answered_is : (trees errors : ℕ) (x : On) (y : Log) (n m : ℕ) → (sink_of x).rows ≡ n → found y ≡ m
-    → answer_of (finished_in trees errors x y) ≡ cond (leb (n * TREE_ROW) trees && leb (m * ERROR_ROW) errors) (Written n m) NoRoom
+    → answer_of (finished_in trees errors x y) ≡ cond (leb (n * TREE_ROW) trees && leb (m * ERROR_ROW) errors) (written n m) no_room
 unfolding finished_in
 answered_is trees errors (on s t) (log f e) n m p q = rw (p, q)
 
-number_of_cond : (b : Bool) (n m : ℕ) → number (cond b (Written n m) NoRoom) ≡ cond b 0 (number_of no_tree_room)
+number_of_cond : (b : Bool) (n m : ℕ) → number (cond b (written n m) no_room) ≡ cond b 0 (number_of no_tree_room)
 unfolding number
 number_of_cond true n m = refl
 number_of_cond false n m = refl
@@ -124,7 +123,7 @@ module _ (k : ℕ) (o : Skeleton) (tokens : List ℕ) (c : Chained o) (small : S
 
   -- the answer: whether both fit
   answer_is : (t e : List ℕ) → answer_of (finish_all k tokens (encode false o) t e)
-      ≡ cond (enough (rows (root k o (tokens_of tokens))) (lexical_errors 0 (tokens_of tokens)) t e) (Written (row_count (root k o (tokens_of tokens))) (errors_in (tokens_of tokens))) NoRoom
+      ≡ cond (enough (rows (root k o (tokens_of tokens))) (lexical_errors 0 (tokens_of tokens)) t e) (written (row_count (root k o (tokens_of tokens))) (errors_in (tokens_of tokens))) no_room
   unfolding finish_all finished_in
   answer_is t e =
       answered_is (length t) (length e) (events_on k tokens (encode false o) t) (errors_on tokens e) (row_count (root k o (tokens_of tokens))) (errors_in (tokens_of tokens)) (tree_count t) (errors_count tokens e small.numbers)
@@ -146,18 +145,18 @@ module _ (k : ℕ) (o : Skeleton) (tokens : List ℕ) (c : Chained o) (small : S
   placed t e a u f g =
       let R = rows (root k o (tokens_of tokens)) in
       let L = lexical_errors 0 (tokens_of tokens) in
-      let says : a ≡ cond (enough R L t e) (Written (row_count (root k o (tokens_of tokens))) (errors_in (tokens_of tokens))) NoRoom = ap answer_of g ∙ answer_is t e in
+      let says : a ≡ cond (enough R L t e) (written (row_count (root k o (tokens_of tokens))) (errors_in (tokens_of tokens))) no_room = ap answer_of g ∙ answer_is t e in
       record {
         fits =
             λ h.
             let p : length R ≤ length t = leb-true (length R) (length t) (and_left (leb (length R) (length t)) (leb (length L) (length e)) h) in
             let q : length L ≤ length e = leb-true (length L) (length e) (and_right (leb (length R) (length t)) (leb (length L) (length e)) h) in
             record {
-              counts = says ∙ ap (λ b. cond b (Written (row_count (root k o (tokens_of tokens))) (errors_in (tokens_of tokens))) NoRoom) h ∙ rw (count_is, found_is);
+              counts = says ∙ ap (λ b. cond b (written (row_count (root k o (tokens_of tokens))) (errors_in (tokens_of tokens))) no_room) h ∙ rw (count_is, found_is);
               rows = ap trees_of (g ∙ whole_written t e p q) ∙ ap (λ (m : ℕ). R ++ drop m t) (sym (rows_length (root k o (tokens_of tokens)) 0 0));
               lexical = ap errors_of (g ∙ whole_written t e p q);
             };
-        lacks = λ h. says ∙ ap (λ b. cond b (Written (row_count (root k o (tokens_of tokens))) (errors_in (tokens_of tokens))) NoRoom) h;
+        lacks = λ h. says ∙ ap (λ b. cond b (written (row_count (root k o (tokens_of tokens))) (errors_in (tokens_of tokens))) no_room) h;
         refusal = ap number says ∙ number_of_cond (enough R L t e) (row_count (root k o (tokens_of tokens))) (errors_in (tokens_of tokens));
       }
 

@@ -8,8 +8,7 @@ use Rattle.definitions.specs.TokenKind as K
 use Rattle.sink_rows.specs.Rows.{FIRST_BYTE, CHILDREN_BEFORE, put, tree_field, field, links, open_rows}
 use Rattle.sink_tokens.specs.Tokens.{kind_seen, trivia_here, at_most, widthN, Log, log, errors_on}
 use Rattle.sink.specs.declared.Sink.{Sink}
-use Rattle.sink.specs.declared.Sunk.{Sunk}
-use Rattle.sink.specs.declared.Sunk.TheVariants.{Written, NoRoom}
+use Rattle.sink.specs.Sunk.{Sunk, written, no_room}
 
 -- ---------------------------------------------------------------- the sink with the tree rows
 
@@ -23,7 +22,6 @@ abbrev pub moved : ℕ → On → On
 moved at (on s trees) = on (record { cursor = at; byte = s.byte; rows = s.rows; node = s.node; children = s.children }) trees
 
 unfoldable pub leaf_on : ℕ → ℕ → ℕ → On → On
-unfolding put
 leaf_on k w n (on s trees) =
     on (record { cursor = s.cursor; byte = low (s.byte + w); rows = low (s.rows + 1); node = s.node; children = low (s.children + 1) })
     (put s.rows (tree_row LEAF k w n s.node []) trees)
@@ -59,7 +57,6 @@ start_on events i (on s trees) =
     (open_rows n events i s.rows s.byte s.node s.children trees)
 
 unfoldable pub finish_on : On → On
-unfolding put tree_field
 finish_on (on s trees) =
     on (record {
       cursor = s.cursor;
@@ -72,7 +69,7 @@ finish_on (on s trees) =
     s.children (tree_field s.node TREE_PARENT trees) []) trees)
 
 unfoldable pub event_on : List ℕ → List ℕ → ℕ → On → On
-unfolding field trivia_on start_on token_on combined_on finish_on
+unfolding trivia_on start_on token_on combined_on finish_on
 event_on tokens events i x =
     let tag = field events i EVENT_TAG in
     cond (eqb tag START_NODE) (start_on events i (trivia_on tokens x))
@@ -87,7 +84,6 @@ eventsN zero tokens events i x = x
 eventsN (suc n) tokens events i x = eventsN n tokens events (i + 1) (event_on tokens events i x)
 
 unfoldable pub root_on : ℕ → List ℕ → On
-unfolding put
 root_on k trees = on (record { cursor = 0; byte = 0; rows = 1; node = 0; children = 0 }) (put 0 (tree_row NODE k 0 0 0 []) trees)
 
 unfoldable pub events_on : ℕ → List ℕ → List ℕ → List ℕ → On
@@ -103,7 +99,7 @@ pub data Finished : Type 0 where
 -- in buffers of so many numbers
 unfoldable pub finished_in : ℕ → ℕ → On → Log → Finished
 finished_in tree-numbers error-numbers (on s trees) (log n errors) =
-    finished (cond (leb (s.rows * TREE_ROW) tree-numbers && leb (n * ERROR_ROW) error-numbers) (Written s.rows n) NoRoom) trees errors
+    finished (cond (leb (s.rows * TREE_ROW) tree-numbers && leb (n * ERROR_ROW) error-numbers) (written s.rows n) no_room) trees errors
 
 unfoldable pub finish_all : ℕ → List ℕ → List ℕ → List ℕ → List ℕ → Finished
 unfolding finished_in events_on errors_on

@@ -1,7 +1,7 @@
 // What a call of the sink answered and left, as text.
 use cases::show;
 use cases::show::Out;
-use sink::Sunk;
+use sink::{NoRoom, Written};
 use std::io;
 
 fn counts(out: &mut Out, trees: u32, errors: u32) -> io::Result<()> {
@@ -11,11 +11,11 @@ fn counts(out: &mut Out, trees: u32, errors: u32) -> io::Result<()> {
     show::number(out, errors as u64)
 }
 
-pub fn answer(out: &mut Out, name: &[u8], a: Sunk) -> io::Result<()> {
+pub fn answer(out: &mut Out, name: &[u8], a: Result<Written, NoRoom>) -> io::Result<()> {
     show::text(out, name)?;
     match a {
-        Sunk::Written(trees, errors) => counts(out, trees, errors)?,
-        Sunk::NoRoom => show::text(out, b": no room")?,
+        Ok(Written { rows, errors }) => counts(out, rows, errors)?,
+        Err(NoRoom) => show::text(out, b": no room")?,
     }
     show::line_end(out)
 }

@@ -1,9 +1,9 @@
 -- What the code does over the numbers of token rows, whatever they are. Each definition is the model of the function
 -- whose contract cites it.
 use Rattle.std.specs.Prelude.{ℕ, zero, suc, ◌+◌, ◌*◌, ◌/◌, Bool, false, cond, List, [], ◌∷◌, length, get_or, ltb, leb}
-use Rattle.std.proofs.lemmas.List.Edits.{sets}
 use Rattle.basics.specs.Word.{low}
 use Rattle.definitions.specs.Layout.{TOKEN_ROW, TOKEN_LENGTH, ERROR_ROW}
+use Rattle.layout.specs.Rows.{put_row}
 use Rattle.definitions.specs.TokenKind as K
 use Rattle.definitions.specs.Token.{is_error, is_trivia}
 
@@ -27,12 +27,11 @@ widthN (suc n) tokens at sum = widthN n tokens (at + 1) (low (sum + get_or token
 pub data Log : Type 0 where
   log : ℕ → List ℕ → Log
 
-unfoldable pub put_error : ℕ → List ℕ → List ℕ → List ℕ
-put_error row r errors =
-    cond (leb (row * ERROR_ROW + ERROR_ROW) (length errors)) (sets errors (row * ERROR_ROW) r) errors
+abbrev pub put_error : ℕ → List ℕ → List ℕ → List ℕ
+put_error row r errors = put_row ERROR_ROW (row * ERROR_ROW) r errors
 
 unfoldable pub logged : ℕ → ℕ → ℕ → Log → Log
-unfolding put_error is_error
+unfolding is_error
 logged k from to (log n errors) =
     cond (is_error k) (log (low (n + 1)) (put_error n (k ∷ from ∷ to ∷ []) errors)) (log n errors)
 

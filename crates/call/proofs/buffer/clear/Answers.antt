@@ -1,27 +1,14 @@
--- `clear`: whatever is zero from i on is what was to be made zero.
-use native.Mathlib.Omega.{arith}
-use mathlib.Core.Path.{refl, sym, ◌∙◌}
-use lib.ListN.{length-set}
-use Rattle.refinement.proofs.Wiped.{wiped_step, wiped_past}
+-- `clear`: what `fill` leaves from the index on, or from the end where the index is past it.
+use Rattle.std.proofs.Common.{◌≡◌, ℕ, ◌-◌, List, length, take, drop, replicate, min, arith}
+use Rattle.std.proofs.lemmas.Grind.{common_steps}
+use borrow.Rule.Slice.PartMut.{put_mid}
+use Rattle.refinement.specs.Ends.{wiped}
 use Rattle.call.proofs.buffer.clear.Goals as goal
 
-pub loop-i-init : goal.loop-i-init
-loop-i-init c = (refl, refl)
-
-pub bounds-buffer-i : goal.bounds-buffer-i
-bounds-buffer-i c = omega arith
-
-pub overflow_add-i : goal.overflow_add-i
-overflow_add-i c = omega arith
-
-pub loop-i-smaller : goal.loop-i-smaller
-loop-i-smaller c = simp length-set (omega arith)
-
-pub loop-i-preserved : goal.loop-i-preserved
-loop-i-preserved c = (wiped_step c.loop-i.buffer c.loop-i.i c.loop-i-test.true ∙ c.loop-i.invariant.0, simp length-set c.loop-i.invariant.1)
-
-pub shape_of-buffer : goal.shape_of-buffer
-shape_of-buffer c = omega arith
+zero_from : (l m : List ℕ) (n k : ℕ) → k ≡ min n (length l) → m ≡ replicate (length (take (length l - k) (drop k l))) 0
+    → put_mid k (length l - k) l m ≡ wiped n l
+unfolding wiped
+zero_from l m n k h e = grind (arith, common_steps)
 
 pub returns : goal.returns
-returns c = sym (wiped_past c.loop-i.buffer c.loop-i.i c.loop-i-test.false) ∙ c.loop-i.invariant.0
+returns c = zero_from _ _ _ _ c.min-kept.ensures (c.fill.ensures.after (λ y h. h))

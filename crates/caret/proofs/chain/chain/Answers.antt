@@ -1,91 +1,23 @@
 -- `chain`: what is on the list, and what is found from here, is the chain.
 use native.Mathlib.Omega.{arith}
-use mathlib.Core.Path.{ap, ◌∙◌}
-use lib.ListN.{length}
-use borrow.Author.Tests.{eqb-true, eqb-false}
-use Rattle.caret.proofs.Chains.{laid_length, walk_starts, at_hand, ends_at, on_from}
+use Rattle.caret.proofs.Chains.{walk_starts, at_hand, ends_at, on_from}
 use Rattle.caret.proofs.chain.chain.Goals as goal
 
 pub loop-spot-init : goal.loop-spot-init
-loop-spot-init c =
-    let s = c in
-    walk_starts s.args.byte s.args.trees.now s.args.list.now s.requires.0 s.requires.1
+loop-spot-init c = walk_starts c.args.byte c.args.trees.now c.args.list.now c.requires.0 c.requires.1
 
 pub seek-spot-requires : goal.seek-spot-requires
 seek-spot-requires c = (c.loop-spot.invariant.going.bytes, c.loop-spot.invariant.going.classes)
 
-pub overflow_cast-here : goal.overflow_cast-here
-overflow_cast-here c =
-    let a = c.args in
-    let l = c.loop-spot in
-    let k = c.seek-spot in
-    let f = at_hand l.invariant k.result k.ensures in
+pub overflow_cast-spot : goal.overflow_cast-spot
+overflow_cast-spot c =
+    let f = at_hand c.loop-spot.invariant c.seek-spot.result c.seek-spot.ensures.value in
     omega (arith, f.at, f.few, c.requires.2)
 
-pub overflow_add-count : goal.overflow_add-count
-overflow_add-count c =
-    let a = c.args in
-    let l = c.loop-spot in
-    let k = c.seek-spot in
-    let f = at_hand l.invariant k.result k.ensures in
-    omega (arith, l.invariant.few, l.invariant.at, f.at, f.later, f.numbers_there)
-
-pub offset_bounds-trees-here : goal.offset_bounds-trees-here
-offset_bounds-trees-here c =
-    let a = c.args in
-    let l = c.loop-spot in
-    let k = c.seek-spot in
-    let f = at_hand l.invariant k.result k.ensures in
-    omega (arith, f.numbers_there)
-
-pub bounds-trees-here : goal.bounds-trees-here
-bounds-trees-here c =
-    let a = c.args in
-    let l = c.loop-spot in
-    let k = c.seek-spot in
-    let f = at_hand l.invariant k.result k.ensures in
-    omega (arith, f.numbers_there)
-
-pub shape_of-list-then-leaf : goal.shape_of-list-then-leaf
-shape_of-list-then-leaf c =
-    let a = c.args in
-    let l = c.loop-spot in
-    let k = c.seek-spot in
-    let f = at_hand l.invariant k.result k.ensures in
-    let n = ap length l.invariant.on_list ∙ laid_length l.invariant.done a.list.now in
-    omega (arith, c.put.auto, n)
-
-pub returns-then-leaf : goal.returns-then-leaf
-returns-then-leaf c =
-    let a = c.args in
-    let l = c.loop-spot in
-    let k = c.seek-spot in
-    let f = at_hand l.invariant k.result k.ensures in
-    let p = c.put in
-    let all = ends_at l.invariant k.result k.ensures p.new.list p.ensures (eqb-true _ _ c.if-leaf.true-raw) in
+pub returns-then-trees-spot-eq-LEAF : goal.returns-then-trees-spot-eq-LEAF
+returns-then-trees-spot-eq-LEAF c =
+    let all = ends_at c.loop-spot.invariant c.seek-spot.result c.seek-spot.ensures.value c.put.new.list c.put.ensures c.if-trees-spot-eq-LEAF.true in
     record { value = all.0; list_after = all.1 }
 
-pub overflow_add-index : goal.overflow_add-index
-overflow_add-index c =
-    let a = c.args in
-    let l = c.loop-spot in
-    let k = c.seek-spot in
-    let f = at_hand l.invariant k.result k.ensures in
-    omega (arith, f.numbers_there)
-
-pub loop-spot-smaller : goal.loop-spot-smaller
-loop-spot-smaller c =
-    let a = c.args in
-    let l = c.loop-spot in
-    let k = c.seek-spot in
-    let f = at_hand l.invariant k.result k.ensures in
-    omega (arith, f.later, f.numbers_there)
-
 pub loop-spot-preserved : goal.loop-spot-preserved
-loop-spot-preserved c =
-    let a = c.args in
-    let l = c.loop-spot in
-    let k = c.seek-spot in
-    let f = at_hand l.invariant k.result k.ensures in
-    let p = c.put in
-    on_from l.invariant k.result k.ensures p.new.list p.ensures (eqb-false _ _ c.if-leaf.false-raw)
+loop-spot-preserved c = on_from c.loop-spot.invariant c.seek-spot.result c.seek-spot.ensures.value c.put.new.list c.put.ensures c.if-trees-spot-eq-LEAF.false

@@ -1,7 +1,6 @@
-use mathlib.Core.Path.{sym}
+use Rattle.std.proofs.Common.{sym, arith}
 use lib.Seq.{set_out}
-use Rattle.basics.proofs.Flags.{flags}
 use Rattle.caret.proofs.list.put.Goals as goal
 
-pub returns : goal.returns
-returns c = sym (set_out _ c.args.at c.args.number (omega flags))
+pub returns-else-at-list : goal.returns-else-at-list
+returns-else-at-list c = sym (set_out _ c.args.at c.args.number (omega arith))

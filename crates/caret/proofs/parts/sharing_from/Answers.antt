@@ -1,64 +1,22 @@
 -- `sharing_from`: what is on the list, and what is found from here, are the parts that share a byte with the range.
-use Prim.Native.Nat.{suc, ◌/◌}
+use Prim.Native.Nat.{suc, ◌+◌, ◌/◌}
 use native.Mathlib.Omega.{arith}
-use mathlib.Core.Path.{ap, ◌∙◌}
+use mathlib.Core.Path.{◌≡◌, sym, ◌∙◌}
 use mathlib.Core.Bool.{Bool, cond}
-use lib.ListN.{length, set}
-use borrow.Author.Tests.{leb-true}
-use Rattle.definitions.specs.Layout.{TREE_ROW}
-use Rattle.caret.proofs.Chains.{laid_length}
+use lib.ListN.{get_or, set}
+use Rattle.definitions.specs.Caret.{share}
+use Rattle.definitions.specs.Layout.{TREE_ROW, TREE_WIDTH}
 use Rattle.caret.proofs.Listings.{listing_starts, listing_ends, listing_over, turn_here, few_here, inside_here, listing_on}
 use Rattle.caret.proofs.parts.sharing_from.Goals as goal
+use Rattle.caret.proofs.parts.sharing_from.Goals.{then-shares, else-shares}
 
 pub loop-index-init : goal.loop-index-init
 loop-index-init c =
     let s = c in
     listing_starts s.args.from s.args.to s.args.trees.now s.args.list.now s.args.first s.args.first_byte s.requires.0
 
-pub overflow_add-index : goal.overflow_add-index
-overflow_add-index c = omega (arith, c.loop-index.invariant.inside)
-
-pub shape_of-list-then-over : goal.shape_of-list-then-over
-shape_of-list-then-over c = ap length c.loop-index.invariant.on_list ∙ laid_length c.loop-index.invariant.done _
-
-pub returns-then-over : goal.returns-then-over
-returns-then-over c =
-    let all = listing_over c.loop-index.invariant (leb-true _ _ c.if-over.true-raw) in
-    record { value = all.0; list_after = all.1 }
-
-pub overflow_add-width : goal.overflow_add-width
-overflow_add-width c = omega (arith, c.loop-index-test.true)
-
-pub offset_bounds-trees-index : goal.offset_bounds-trees-index
-offset_bounds-trees-index c = omega (arith, c.loop-index-test.true)
-
-pub bounds-trees-index : goal.bounds-trees-index
-bounds-trees-index c = omega (arith, c.loop-index-test.true)
-
-pub overflow_cast-end : goal.overflow_cast-end
-overflow_cast-end c =
-    let t = turn_here c.loop-index.invariant c.loop-index-test.true in
-    omega (arith, t.fits, c.loop-index.invariant.small)
-
-pub overflow_add-end : goal.overflow_add-end
-overflow_add-end c =
-    let t = turn_here c.loop-index.invariant c.loop-index-test.true in
-    omega (arith, t.fits, c.loop-index.invariant.small)
-
 pub overflow_cast-index : goal.overflow_cast-index
 overflow_cast-index c = omega (arith, few_here c.loop-index.invariant c.loop-index-test.true, c.requires.1)
-
-pub put_if-count-requires : goal.put_if-count-requires
-put_if-count-requires c = omega (arith, c.loop-index.invariant.few, c.loop-index.invariant.at, c.loop-index-test.true)
-
-pub overflow_add-index-in-loop-index : goal.overflow_add-index-in-loop-index
-overflow_add-index-in-loop-index c = omega (arith, c.loop-index-test.true)
-
-pub offset_bounds-trees-index-in-loop-index : goal.offset_bounds-trees-index-in-loop-index
-offset_bounds-trees-index-in-loop-index c = omega (arith, c.loop-index-test.true)
-
-pub bounds-trees-index-in-loop-index : goal.bounds-trees-index-in-loop-index
-bounds-trees-index-in-loop-index c = omega (arith, c.loop-index-test.true)
 
 pub overflow_mul-trees : goal.overflow_mul-trees
 overflow_mul-trees c =
@@ -73,22 +31,24 @@ overflow_sub-width c =
 pub past-index-requires : goal.past-index-requires
 past-index-requires c = inside_here c.loop-index.invariant c.loop-index-test.true
 
-pub loop-index-smaller : goal.loop-index-smaller
-loop-index-smaller c = omega (arith, c.loop-index-test.true, c.past-index.ensures)
-
 pub loop-index-preserved : goal.loop-index-preserved
 loop-index-preserved c =
     let l = c.loop-index in
-    let p = c.put_if-count in
-    let shares = c.shares-listed in
-    listing_on l.invariant c.loop-index-test.true c.past-index.result p.result p.new.list c.past-index.ensures
-    (p.ensures.value ∙ ap (λ (b : Bool). cond b (suc l.count) l.count) shares.ensures)
-    (p.ensures.list_after ∙ ap (λ (b : Bool). cond b (set l.list l.count (l.index / TREE_ROW)) l.list) shares.ensures)
+    let n = c.if-shares in
+    let b : Bool = share c.args.from c.args.to l.start (l.start + get_or c.args.trees.now (l.index + TREE_WIDTH) 0) in
+    let listed : (n.count ≡ cond b (suc l.count) l.count) × (n.list ≡ cond b (set l.list l.count (l.index / TREE_ROW)) l.list) =
+    elim c.if-shares.branch [
+      | then-shares w ↦ rw (sym c.shares.ensures ∙ w.if-shares.true) (omega (arith, w.count-is), w.list-is ∙ w.put.ensures)
+      | else-shares w ↦ rw (sym c.shares.ensures ∙ w.if-shares.false) (w.count-is, w.list-is)
+    ] in
+    listing_on l.invariant c.loop-index-test.true c.past-index.result n.count n.list c.past-index.ensures listed.0 listed.1
 
-pub shape_of-list : goal.shape_of-list
-shape_of-list c = ap length c.loop-index.invariant.on_list ∙ laid_length c.loop-index.invariant.done _
+pub returns-else-start-to : goal.returns-else-start-to
+returns-else-start-to c =
+    let all = listing_over c.loop-index.invariant c.if-start-to.false in
+    record { value = all.0; list_after = all.1 }
 
-pub returns : goal.returns
-returns c =
+pub returns-after-loop-index : goal.returns-after-loop-index
+returns-after-loop-index c =
     let all = listing_ends c.loop-index.invariant (omega (arith, c.loop-index-test.false)) in
     record { value = all.0; list_after = all.1 }

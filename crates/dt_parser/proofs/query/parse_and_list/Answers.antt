@@ -1,30 +1,32 @@
 -- `parse_and_list`: refused by the parse, or its list.
-use mathlib.Core.Path.{refl}
+use Rattle.std.proofs.Common.{sym, ◌∙◌}
 use Rattle.caret.specs.Asked.{query_of}
-use Rattle.call.specs.Result.{buffers_of}
+use Rattle.call.specs.Result.{held}
+use Rattle.listing.specs.Listed.{ended}
 use Rattle.listing.proofs.Ends.{walk_needs, parse_listed, parse_refused}
 use Rattle.dt_parser.proofs.query.parse_and_list.Goals as goal
 
-pub list_of-requires : goal.list_of-requires
-list_of-requires c =
-    let s = c in
-    let a = s.args in
+pub write_list-count-requires : goal.write_list-count-requires
+write_list-count-requires c =
+    let a = c.args in
     let p = c.parse-a in
-    walk_needs (query_of a.query) a.setting a.bytes.now a.tokens.now (buffers_of a.events.now a.trees.now a.errors.now a.reports.now a.pool.now) a.list.now s.requires p.result (buffers_of p.new.events p.new.trees p.new.errors p.new.reports p.new.pool) p.ensures c.if-parsed.true-raw p.auto.trees
+    walk_needs (query_of a.query) a.input.setting a.input.bytes.now a.input.tokens.now (held a.buffers.now) a.list.now c.requires p.result (held p.new.buffers) p.ensures.parsed
+    (sym c.is_accepted.ensures ∙ c.if-is_accepted.true) p.ensures.same.trees_length
 
-pub returns-then-parsed : goal.returns-then-parsed
-returns-then-parsed c =
-    let s = c in
-    let a = s.args in
+pub returns-then-is_accepted-clause-ended : goal.returns-then-is_accepted-clause-ended
+returns-then-is_accepted-clause-ended c =
+    let a = c.args in
     let p = c.parse-a in
-    let l = c.list_of in
-    parse_listed (query_of a.query) a.setting a.bytes.now a.tokens.now (buffers_of a.events.now a.trees.now a.errors.now a.reports.now a.pool.now) a.list.now s.requires p.result (buffers_of p.new.events p.new.trees p.new.errors p.new.reports p.new.pool) p.ensures c.if-parsed.true-raw
-    (record { trees = p.auto.trees; errors = p.auto.errors; reports = p.auto.reports; pool = p.auto.pool })
-    l.result l.new.list (buffers_of p.new.events l.new.trees l.new.errors l.new.reports l.new.pool) refl l.ensures
+    let s = p.ensures.same in
+    let l = c.write_list-count.ensures in
+    parse_listed (query_of a.query) a.input.setting a.input.bytes.now a.input.tokens.now (held a.buffers.now) a.list.now c.requires p.result (held p.new.buffers) p.ensures.parsed
+    (sym c.is_accepted.ensures ∙ c.if-is_accepted.true)
+    (record { events = s.events_length; trees = s.trees_length; errors = s.errors_length; reports = s.reports_length; pool = s.pool_length }) _
+    (c.finish.ensures.ended ∙ (λ i. ended p.result (l.value i) (l.list_after i) (held p.new.buffers)))
 
-pub returns : goal.returns
-returns c =
-    let s = c in
-    let a = s.args in
+pub returns-clause-ended : goal.returns-clause-ended
+returns-clause-ended c =
+    let a = c.args in
     let p = c.parse-a in
-    parse_refused (query_of a.query) a.setting a.bytes.now a.tokens.now (buffers_of a.events.now a.trees.now a.errors.now a.reports.now a.pool.now) a.list.now s.requires p.result (buffers_of p.new.events p.new.trees p.new.errors p.new.reports p.new.pool) p.ensures c.without_list.result c.clear.new.buffer c.if-parsed.false-raw c.without_list.ensures c.clear.ensures
+    parse_refused (query_of a.query) a.input.setting a.input.bytes.now a.input.tokens.now (held a.buffers.now) a.list.now c.requires p.result (held p.new.buffers) p.ensures.parsed
+    c.without_list.result c.clear.new.buffer (sym c.is_accepted.ensures ∙ c.if-is_accepted.false) c.without_list.ensures c.clear.ensures

@@ -1,22 +1,25 @@
 -- `links`: those still to count and those counted are all.
-use Rattle.basics.proofs.Flags.{flags}
-use Rattle.sink_rows.proofs.Chains.{links_begin, links_again, links_done}
+use Rattle.std.proofs.Common.{◌+◌, ◌-◌, ◌/◌, length, arith}
+use Rattle.definitions.specs.Layout.{EVENT_ROW}
+use Rattle.sink_rows.proofs.Chains.{links_more, links_end, links_all}
 use Rattle.sink_rows.proofs.event_row.links.Goals as goal
 
-pub loop-d-init : goal.loop-d-init
-loop-d-init c = (links_begin _ _, (c.link-d.ensures.value, (c.link-d.ensures.upper_bound, (omega flags, omega flags))))
+pub loop-next-init : goal.loop-next-init
+loop-next-init c = record {
+  all = omega (arith, links_all c.args.events.now c.args.i (length c.args.events.now / EVENT_ROW - 0) (omega arith));
+  passed = omega arith;
+  few = omega arith;
+}
 
-pub overflow_add-j : goal.overflow_add-j
-overflow_add-j c = omega flags
-
-pub overflow_add-n : goal.overflow_add-n
-overflow_add-n c = omega flags
-
-pub loop-d-smaller : goal.loop-d-smaller
-loop-d-smaller c = omega flags
-
-pub loop-d-preserved : goal.loop-d-preserved
-loop-d-preserved c = (links_again _ _ _ _ _ c.loop-d.invariant.0 c.loop-d.invariant.1.0 (omega flags) (omega flags), (c.link-d-in-loop-d.ensures.value, (c.link-d-in-loop-d.ensures.upper_bound, (omega flags, omega flags))))
+pub loop-next-preserved : goal.loop-next-preserved
+loop-next-preserved c =
+    let l = c.loop-next in
+    let rows = length c.args.events.now / EVENT_ROW in
+    record {
+      all = omega (arith, l.invariant.all, links_more c.args.events.now l.j c.in-Some.next (rows - (l.n + 1)) (rows - l.n) c.in-Some.ensures.value (omega (arith, l.invariant.passed, c.in-Some.ensures)));
+      passed = omega (arith, c.in-Some.ensures.value);
+      few = omega (arith, c.in-Some.ensures.value, c.in-Some.ensures.inside);
+    }
 
 pub returns : goal.returns
-returns c = links_done _ _ _ _ _ _ c.loop-d.invariant.0 c.loop-d.invariant.1.0 (omega flags)
+returns c = omega (arith, c.loop-next.invariant.all, links_end c.args.events.now c.loop-next.j (length c.args.events.now / EVENT_ROW - c.loop-next.n) c.in_default.ensures.value)

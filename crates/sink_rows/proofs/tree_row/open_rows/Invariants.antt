@@ -1,13 +1,9 @@
 -- `open_rows`: what is left of the chain is written as all of it is.
-use Prim.Native.Nat.{◌≤◌, ◌<◌}
 use mathlib.Core.Path.{◌≡◌}
-use lib.ListN.{length}
-use Rattle.definitions.specs.Layout.{TWO_TO_64}
 use Rattle.sink_rows.specs.Rows.{open_rows}
 use Rattle.sink_rows.proofs.tree_row.open_rows.Given as goal
 
 abbrev pub invariant-loop-left : goal.invariant-loop-left
-invariant-loop-left l = (open_rows l.left l.events l.j l.first l.byte l.parent l.children l.trees ≡ open_rows l.n l.events l.i l.first l.byte l.parent l.children l.initial.trees) × ((length l.trees ≡ length l.initial.trees) × ((l.left ≤ l.n) × (l.j < TWO_TO_64)))
-
-abbrev pub decreases-loop-left : goal.decreases-loop-left
-decreases-loop-left l = l.left
+invariant-loop-left l =
+    open_rows l.left l.events l.j l.first l.byte l.parent l.children l.trees
+    ≡ open_rows l.n l.events l.i l.first l.byte l.parent l.children l.fn.trees

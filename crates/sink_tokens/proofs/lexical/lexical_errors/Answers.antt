@@ -1,34 +1,24 @@
 -- `lexical_errors`: the tokens from here on are logged as all are.
-use Prim.Native.Nat.{◌/◌}
-use mathlib.Core.Path.{refl, sym, ◌∙◌}
-use lib.ListN.{length}
-use Rattle.basics.proofs.Flags.{flags}
-use Rattle.sink_tokens.proofs.Runs.{errors_begin, errors_again, errors_end}
+use Rattle.std.proofs.Common.{◌+◌, ◌-◌, [], get_or, ◌/◌, ◌∙◌, sym, length, arith}
 use Rattle.definitions.specs.Layout.{TOKEN_ROW}
 use Rattle.sink_tokens.specs.Tokens.{log, errors_on}
+use Rattle.sink_tokens.proofs.Runs.{token_row, errors_step, errors_end}
 use Rattle.sink_tokens.proofs.lexical.lexical_errors.Goals as goal
 
-pub loop-at-init : goal.loop-at-init
-loop-at-init c = (errors_begin _ _ _, (omega flags, refl))
-
-pub bounds-tokens-at : goal.bounds-tokens-at
-bounds-tokens-at c = omega flags
-
-pub bounds-tokens-at-in-loop-at : goal.bounds-tokens-at-in-loop-at
-bounds-tokens-at-in-loop-at c = omega flags
-
-pub overflow_add-at : goal.overflow_add-at
-overflow_add-at c = omega flags
-
-pub loop-at-smaller : goal.loop-at-smaller
-loop-at-smaller c = omega flags
-
-pub loop-at-preserved : goal.loop-at-preserved
-loop-at-preserved c = (errors_again _ _ _ _ _ _ _ _ c.add-end.ensures c.log_token-found.ensures (omega flags) c.loop-at.invariant.0, (omega flags, omega (flags, c.log_token-found.auto)))
-
-pub shape_of-errors : goal.shape_of-errors
-shape_of-errors c = c.loop-at.invariant.1.1
+pub loop-kind-preserved : goal.loop-kind-preserved
+loop-kind-preserved c =
+    let l = c.loop-kind in
+    let t = c.args.tokens.now in
+    let items = c.as_chunks.result.0.now in
+    let row = token_row t l.kind-index items c.as_chunks.ensures.front c.as_chunks.ensures.front_len c.loop-kind-test.true in
+    let rows = length t / TOKEN_ROW in
+    rw (
+      c.log_token-found.ensures,
+      ← errors_step t l.kind-index l.byte (log l.found l.errors) (get_or items l.kind-index []) c.add-end.result (rows - (l.kind-index + 1)) (rows - l.kind-index) row c.add-end.ensures (omega arith),
+    ) l.invariant
 
 pub returns : goal.returns
 unfolding errors_on
-returns c = sym (errors_end (length c.args.tokens.now / TOKEN_ROW) c.args.tokens.now c.loop-at.at c.loop-at.byte (log c.loop-at.found c.loop-at.errors) (omega flags)) ∙ c.loop-at.invariant.0
+returns c =
+    let l = c.loop-kind in
+    sym (errors_end _ _ _ _ (length c.args.tokens.now / TOKEN_ROW - l.kind-index) (omega arith)) ∙ l.invariant

@@ -1,26 +1,13 @@
 -- `width_of`: the sum so far and the bytes still to add are all.
-use mathlib.Core.Path.{refl, sym, ◌∙◌}
-use Rattle.basics.proofs.Flags.{flags}
-use Rattle.sink_tokens.proofs.Runs.{width_again, width_end}
+use Rattle.std.proofs.Common.{◌+◌, ◌-◌, ◌∙◌, sym, arith}
+use Rattle.sink_tokens.proofs.Runs.{width_step, width_end}
 use Rattle.sink_tokens.proofs.token_row.width_of.Goals as goal
 
-pub loop-left-init : goal.loop-left-init
-loop-left-init c = (refl, omega flags)
-
-pub bounds-tokens-at : goal.bounds-tokens-at
-bounds-tokens-at c = omega flags
-
-pub overflow_add-at : goal.overflow_add-at
-overflow_add-at c = omega flags
-
-pub overflow_sub-left : goal.overflow_sub-left
-overflow_sub-left c = omega flags
-
-pub loop-left-smaller : goal.loop-left-smaller
-loop-left-smaller c = omega flags
-
-pub loop-left-preserved : goal.loop-left-preserved
-loop-left-preserved c = (width_again c.loop-left.left _ _ _ _ _ c.add-sum.ensures (omega flags) c.loop-left.invariant.0, omega flags)
+pub loop-at-preserved : goal.loop-at-preserved
+loop-at-preserved c =
+    let l = c.loop-at in
+    let left = c.args.from + c.args.n in
+    rw (c.add-sum.ensures, ← width_step c.args.tokens.now l.at l.sum (left - (l.at + 1)) (left - l.at) (omega arith)) l.invariant
 
 pub returns : goal.returns
-returns c = sym (width_end c.loop-left.left _ _ _ (omega flags)) ∙ c.loop-left.invariant.0
+returns c = sym (width_end _ _ _ (c.args.from + c.args.n - c.loop-at.at) (omega arith)) ∙ c.loop-at.invariant
