@@ -1,6 +1,6 @@
 -- The reports of some Names, pushed one after the other: all fit, and stand in the buffer as the definitions say, or
 -- the first that does not fit is refusal 7.
-use Rattle.std.proofs.Common.{ℕ, zero, suc, ◌+◌, ◌-◌, ◌*◌, ◌≤◌, arith, mod-eq_of_lt, ◌≡◌, refl, ap, sym, ◌∙◌, subst, Bool, true, false, cond, not, List, [], ◌∷◌, ◌++◌, append_assoc, leb, length, take, drop, length-append, take_at, drop-drop, le-leb, Ok, Err, length-take-le, take-append-drop}
+use Rattle.std.proofs.Common.{ℕ, zero, suc, ◌+◌, ◌-◌, ◌*◌, ◌≤◌, arith, mod-eq_of_lt, ◌≡◌, refl, ap, sym, ◌∙◌, subst, Bool, true, false, cond, not, ◌&&◌, List, [], ◌∷◌, ◌++◌, append_assoc, leb, length, take, drop, length-append, take_at, drop-drop, le-leb, Ok, Err, length-take-le, take-append-drop}
 use mathlib.Core.Bool.{false≢true}
 use lib.Seq.{sets-eq, drop-append-add}
 use borrow.Author.Tests.{lt-leb}
@@ -25,7 +25,7 @@ unfolding breaks
 breaks_rule bytes start end h = go (leb start end) refl
   where
     go : (b : Bool) → leb start end ≡ b
-        → cond b (cond (leb end (length bytes)) (not (keeps_rule (take (end - start) (drop start bytes)))) false) false
+        → (b && leb end (length bytes) && not (keeps_rule (take (end - start) (drop start bytes))))
         ≡ not (keeps_rule (take (end - start) (drop start bytes)))
     go true e = rw (le-leb end (length bytes) h) refl
     go false e = let z : end - start ≡ 0 = omega flags in rw z (unfold keeps_rule in refl)

@@ -103,12 +103,7 @@ inside_refused bytes ts first (v ∷ es) e reports (on w r) h =
     h (inside_refused bytes ts first es e reports (event_on bytes ts first v (on w r)) (event_refused bytes ts first v e reports (on w r) h))
 
 settled_refused : (k : ℕ) (e : NoReportRoom) (reports : List ℕ) (x : On) → Refused e reports x → settled k (Err e) x ≡ out (Err e) reports
-settled_refused k e reports (on w r) (h, q) = rw (h, q) (by (eqb k N.DtPhandle) w.braced)
-  where
-    by : (b c : Bool) → cond b (cond c (out (Err e) reports) (out (Err e) reports)) (out (Err e) reports) ≡ out (Err e) reports
-    by true true = refl
-    by true false = refl
-    by false c = refl
+settled_refused k e reports (on w r) (h, q) = rw (h, q) (cond-all (λ (x : Out). x ≡ out (Err e) reports) (eqb k N.DtPhandle && w.braced) refl refl)
 
 pub nodes_refused : (bytes : List ℕ) (ts : List Token) (first : ℕ) (es : List Event) (b : ℕ) (p : Seat) (e : NoReportRoom) (reports : List ℕ)
     → nodes_on bytes ts first es b p (out (Err e) reports) ≡ out (Err e) reports

@@ -2,7 +2,7 @@
 -- directly in it is seen: an LCurly, and the Names that are judged.
 use Rattle.std.proofs.Common.{ℕ, suc, ◌+◌, ◌-◌, arith, ◌≡◌, refl, ap, sym, ◌∙◌, Bool, true, false, cond, ◌&&◌, ◌||◌, List, [], ◌∷◌, ◌++◌, append_assoc, eqb, length, drop, not, eqb-true}
 use mathlib.Core.Bool.{false≢true}
-use Rattle.std.proofs.Math.Bool.{or_assoc, or-false}
+use Rattle.std.proofs.Math.Bool.{or_assoc, or_comm, or-false}
 use Rattle.std.proofs.Math.Dec.{eqb-suc-zero}
 use Rattle.definitions.specs.NodeKind as N
 use Rattle.definitions.specs.Token.{Token, drop_trivia, past, byte_count}
@@ -78,7 +78,7 @@ module _ (F : File) where
   -- ---------------------------------------------------------------- a token, a name
 
   abbrev brace : ℕ → Bool → Bool → Bool
-  brace d c b = cond (eqb d 0) (cond c true b) b
+  brace d c b = (eqb d 0 && c) || b
 
   token_walk : (ts : List Token) (d : ℕ) (b : Bool) (r : Rep) → Part F ts → Firsts 1 (drop_trivia ts)
       → token_on all (walking (drop_trivia ts) d b r) ≡ walking (drop_trivia (past (drop_trivia ts))) d (brace d (first_curly (drop_trivia ts)) b) r
@@ -140,7 +140,7 @@ module _ (F : File) where
   deep (token x m o) ts d b r es h (f, t) =
       let v : List Token = drop_trivia ts in
       ap (λ (w : Walk). inside (told o ++ es) (on w r.reports)) (token_walk ts (suc d) b r h f)
-      ∙ ap (λ (c : Bool). inside (told o ++ es) (state (drop_trivia (past v)) (suc d) (cond c (cond (first_curly v) true b) b) r)) (eqb-suc-zero d)
+      ∙ ap (λ (c : Bool). inside (told o ++ es) (state (drop_trivia (past v)) (suc d) ((c && first_curly v) || b) r)) (eqb-suc-zero d)
       ∙ deep o (past v) d b r es (part_past F v (part_solid F ts h)) t
   deep (name raw m o) ts d b r es h (f, t) =
       let v : List Token = drop_trivia ts in
@@ -177,12 +177,6 @@ module _ (F : File) where
 
   -- ---------------------------------------------------------------- directly in it
 
-  or_cond : (c b : Bool) → cond c true b ≡ (b || c)
-  or_cond true true = refl
-  or_cond true false = refl
-  or_cond false true = refl
-  or_cond false false = refl
-
   or_none : (b c : Bool) → c ≡ false → (b || c) ≡ b
   or_none b c e = rw e (or-false b)
 
@@ -195,7 +189,7 @@ module _ (F : File) where
       let v : List Token = drop_trivia ts in
       let q : Bool = first_curly v in
       ap (λ (w : Walk). inside (told o ++ es) (on w r.reports)) (token_walk ts 0 b r h f)
-      ∙ ap (λ (x : Bool). inside (told o ++ es) (state (drop_trivia (past v)) 0 x r)) (or_cond q b)
+      ∙ ap (λ (x : Bool). inside (told o ++ es) (state (drop_trivia (past v)) 0 x r)) (or_comm q b)
       ∙ direct o (past v) (b || q) r es (part_past F v (part_solid F ts h)) c p t
       ∙ ap (λ (x : Bool). inside es (state (drop_trivia (after o (past v))) 0 x (emits F (found true o (past v)) r))) (or_assoc b q (curly o (past v)))
   direct (name raw m o) ts b r es h c p (f, t) =
@@ -274,7 +268,7 @@ module _ (F : File) where
 
       by : (y z : Bool) → eqb k N.DtPhandle ≡ y → curly i ts ≡ z
           → node_on bytes all first k (told i ++ es) (seated F (drop_trivia ts)) (held r)
-          ≡ cond y (cond z (out r.names names.reports) (held names)) (held names)
+          ≡ cond (y && z) (out r.names names.reports) (held names)
       by y z f g = ap (settled k r.names) inner ∙ rw (f, g) refl
 
       go : (x : Bool) → eqb k N.DtLabel ≡ x → (y : Bool) → eqb k N.DtPhandle ≡ y → (z : Bool) → curly i ts ≡ z → (x || y) ≡ true → Node-judged k i ts es r

@@ -1,6 +1,6 @@
 -- What the code does, step by step, over the numbers of the lent buffers, whatever they are. Each definition is the
 -- model of the function whose contract cites it. No part of the exported promise.
-use Rattle.std.specs.Prelude.{ℕ, zero, suc, ◌+◌, ◌-◌, ◌*◌, Bool, true, false, cond, not, ◌&&◌, ◌||◌, Option, None, Some, Result, Ok, Err, List, [], ◌∷◌, leb, eqb, length, get_or, take, drop}
+use Rattle.std.specs.Prelude.{ℕ, zero, suc, ◌+◌, ◌-◌, ◌*◌, Bool, false, cond, not, ◌&&◌, ◌||◌, Option, None, Some, Result, Ok, Err, List, [], ◌∷◌, leb, eqb, length, get_or, take, drop}
 use Rattle.basics.specs.Word.{low}
 use Rattle.definitions.specs.Layout.{EVENT_ROW, EVENT_TAG, EVENT_ARGUMENT, REPORT_ROW, OLD_SETTING}
 use Rattle.definitions.specs.Layout.{START_NODE, ADD_TOKEN, ADD_COMBINED_TOKEN, FINISH_NODE, LINKED_START_NODE}
@@ -22,8 +22,7 @@ use Rattle.labels.specs.declared.scan.Found.{Found}
 
 unfoldable pub breaks : List ℕ → ℕ → ℕ → Bool
 unfolding keeps_rule
-breaks bytes start end =
-    cond (leb start end) (cond (leb end (length bytes)) (not (keeps_rule (take (end - start) (drop start bytes)))) false) false
+breaks bytes start end = leb start end && leb end (length bytes) && not (keeps_rule (take (end - start) (drop start bytes)))
 
 -- ---------------------------------------------------------------- events
 
@@ -136,7 +135,7 @@ unfoldable pub token_on : List Token → Walk → Walk
 unfolding solid_after first_in
 token_on ts w =
     let curly = first_in (K.LCurly ∷ []) (drop w.seat.at ts) in
-    with_braced (cond (eqb w.depth 0) (cond curly true w.braced) w.braced) (at_seat (solid_after 1 ts w.seat) w)
+    with_braced ((eqb w.depth 0 && curly) || w.braced) (at_seat (solid_after 1 ts w.seat) w)
 
 unfoldable pub name_on : List ℕ → List Token → ℕ → ℕ → On → On
 unfolding passed solid_after breaks reported
@@ -163,7 +162,7 @@ inside_on bytes ts first (e ∷ es) (on w reports) =
 
 -- a DtPhandle with an LCurly reports nothing
 abbrev pub settled : ℕ → Names → On → Out
-settled kind s (on w reports) = cond (eqb kind N.DtPhandle) (cond w.braced (out s reports) (out w.names reports)) (out w.names reports)
+settled kind s (on w reports) = cond (eqb kind N.DtPhandle && w.braced) (out s reports) (out w.names reports)
 
 -- the node of this kind whose events begin here; p: its first token that is not trivia
 unfoldable pub node_on : List ℕ → List Token → ℕ → ℕ → List Event → Seat → Out → Out
