@@ -2,27 +2,26 @@
 use Prim.Native.Nat.{ℕ, ◌≤◌}
 use native.Mathlib.Omega.{arith}
 use mathlib.Core.Path.{◌≡◌, refl, ap, sym, ◌∙◌}
-use mathlib.Core.List.{List}
-use mathlib.Core.Bool.{Bool, true, false, cond}
+use mathlib.Core.Bool.{Bool, true, false}
 use lib.Dec.{eqb}
 use lib.ListN.{length}
 use Rattle.std.specs.Prelude.{IfOk, Ok, Err}
 use borrow.Author.Tests.{eqb-true, eqb-false}
 use Rattle.definitions.specs.Token.{tokens_of}
-use Rattle.definitions.specs.Refusal.{Verdict, accepted, number_of, place_of}
+use Rattle.definitions.specs.Refusal.{accepted, number_of, place_of}
 use Rattle.definitions.specs.RowCauses.{check_input}
 use Rattle.definitions.specs.Grammar.{Entry, root_kind}
-use Rattle.definitions.specs.Call.{Buffers, Result, parse, Asked, for, entry_of, checked, asked, call}
+use Rattle.definitions.specs.Call.{Buffers, Result, parse}
 use Rattle.machine.specs.Machine.{Machine}
 use Rattle.sink.specs.Sunk.{Sunk}
-use Rattle.labels.specs.declared.report.Names.{Names}
-use Rattle.refinement.specs.Ends.{swept, refused_at, sunk_answer, last_answer, after_all, SameLengths, Parsed, CallEnds}
+use Rattle.labels.specs.Model.{Names}
+use Rattle.refinement.specs.Ends.{swept, sunk_answer, last_answer, after_all, SameLengths, Parsed, CallEnds}
 use Rattle.refinement.proofs.Ends.{calls_end}
 use Rattle.call.specs.declared.Answer.{Answer}
 use Rattle.call.specs.Result.{answer_of}
 use Rattle.call.specs.declared.lent.Input.{Input}
 use Rattle.call.specs.declared.outcome.Filled.{Filled}
-use Rattle.call.specs.Ended.{refused_with, sunk_with, named_with, run_of, AnswerOfRun, Ended}
+use Rattle.call.specs.Ended.{sunk_with, named_with, run_of, AnswerOfRun, Ended}
 
 same_sunk : (s : Sunk) (r p : ℕ) → answer_of (sunk_with s r p) ≡ sunk_answer s r p
 unfolding number_of place_of
@@ -30,12 +29,8 @@ same_sunk (Ok w) r p = refl
 same_sunk (Err e) r p = refl
 
 same_answer : (s : Sunk) (w : Names) (m : Machine) → answer_of (named_with s w m.pool.count) ≡ last_answer s w m
-same_answer s w m = go (eqb w.refusal 0)
-  where
-    go : (b : Bool) → answer_of (cond b (sunk_with s w.written m.pool.count) (refused_with w.refusal w.place))
-        ≡ cond b (sunk_answer s w.written m.pool.count) (refused_at w.refusal w.place)
-    go true = same_sunk s w.written m.pool.count
-    go false = refl
+same_answer s (Ok written) m = same_sunk s written m.pool.count
+same_answer s (Err e) m = refl
 
 -- e: the entry. b: the buffers at first. m: the parser's machine after its run.
 module _ (e : Entry) (input : Input) (b : Buffers) (m : Machine) (ok : check_input input.bytes.now input.tokens.now ≡ accepted)

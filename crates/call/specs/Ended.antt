@@ -1,13 +1,13 @@
 -- What is left after a parse. No part of the exported promise.
 use Rattle.std.specs.Prelude.{ℕ, ◌*◌, ◌/◌, ◌<◌, ◌≡◌, cond, eqb, take, Result, Ok, Err}
 use Rattle.basics.specs.Word.{low}
-use Rattle.definitions.specs.Layout.{TREE_ROW, ERROR_ROW, REPORT_ROW, NO_TREE_ROOM, TWO_TO_64}
+use Rattle.definitions.specs.Layout.{TREE_ROW, ERROR_ROW, REPORT_ROW, NO_REPORT_ROOM, NO_TREE_ROOM, TWO_TO_64}
 use Rattle.definitions.specs.Call.{Buffers}
 use Rattle.definitions.specs.Call as Call
 use Rattle.machine.specs.Machine.{Machine}
 use Rattle.sink.specs.Sunk.{Sunk}
 use Rattle.sink.specs.Promise as Sink
-use Rattle.labels.specs.declared.report.Names.{Names}
+use Rattle.labels.specs.Model.{Names}
 use Rattle.labels.specs.Promise as Labels
 use Rattle.refinement.specs.Ends.{swept, SameLengths}
 use Rattle.call.specs.declared.Answer.{Answer}
@@ -30,7 +30,8 @@ sunk_with (Err e) r n = refused_with NO_TREE_ROOM 0
 
 -- and by what the reports of the setting's Names come to: 7 comes before 8
 abbrev pub named_with : Sunk → Names → ℕ → Answer
-named_with s w n = cond (eqb w.refusal 0) (sunk_with s w.written n) (refused_with w.refusal w.place)
+named_with s (Ok written) n = sunk_with s written n
+named_with s (Err e) n = refused_with NO_REPORT_ROOM e.mark
 
 -- the answer's counts are not large numbers
 pub record CountsFit (a : Answer) : Type 0 where

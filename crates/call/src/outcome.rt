@@ -7,7 +7,7 @@ use crate::buffer::clear;
 use crate::lent::{Buffers, Input};
 use crate::{Answer, accepted, refused};
 use labels::judge::report_names;
-use layout::refusal::NO_TREE_ROOM;
+use layout::refusal::{NO_REPORT_ROOM, NO_TREE_ROOM};
 use layout::row::{ERROR_ROW, REPORT_ROW, TREE_ROW};
 use layout::word::low32;
 use sink::{NoRoom, Written};
@@ -64,7 +64,7 @@ fn answer_of_run(
     let tokens = input.tokens;
     let events = &mut buffers.events[..filled.events];
     let sunk = sink::finish(root_kind, tokens, events, buffers.trees, buffers.errors);
-    let names = report_names(
+    match report_names(
         input.setting,
         root_kind,
         input.bytes,
@@ -73,11 +73,9 @@ fn answer_of_run(
         buffers.reports,
         filled.reports,
         low32(filled.pool),
-    );
-    if names.refusal == 0 {
-        answer_of_sink(sunk, names.written, filled.pool)
-    } else {
-        refused(names.refusal, names.place)
+    ) {
+        Ok(written) => answer_of_sink(sunk, written, filled.pool),
+        Err(no_room) => refused(NO_REPORT_ROOM, no_room.mark),
     }
 }
 

@@ -1,44 +1,39 @@
--- Reports that are alike: as many numbers written, the same numbers up to there, the same refusal. What stands past the
+-- Reports that are alike: as many numbers written, the same numbers up to there, the same that did not fit. What stands past the
 -- numbers written does not count: a DtPhandle that turns out to be braced leaves something there.
-use Prim.Native.Nat.{ℕ, ◌+◌, ◌-◌, ◌≤◌}
-use native.Mathlib.Omega.{arith}
-use mathlib.Core.Path.{◌≡◌, refl, ap, sym, ◌∙◌}
-use mathlib.Core.Bool.{Bool, true, false, cond}
-use mathlib.Core.List.{List, [], ◌∷◌, ◌++◌}
-use lib.Dec.{leb, eqb}
-use lib.ListN.{length, take, drop, length-append}
-use lib.Seq.{sets, sets-eq, length-sets, length-take-le, take_at, take-append-le, take-take}
-use borrow.Author.Tests.{leb-true}
+use Rattle.std.proofs.Common.{ℕ, ◌+◌, ◌-◌, ◌≤◌, arith, ◌≡◌, refl, ap, sym, ◌∙◌, Bool, true, false, cond, List, [], ◌∷◌, ◌++◌, leb, length, take, drop, length-append, length-take-le, take_at, take-take, leb-true, Ok, Err, subst}
+use mathlib.Core.Bool.{false≢true}
+use lib.Seq.{sets, sets-eq, length-sets, take-append-le}
 use Rattle.basics.specs.Word.{low}
 use Rattle.basics.proofs.Tests.{and_left, and_right}
-use Rattle.definitions.specs.Layout.{REPORT_ROW, NO_REPORT_ROOM}
+use Rattle.definitions.specs.Layout.{REPORT_ROW}
 use Rattle.definitions.specs.Token.{Token, byte_count}
 use Rattle.laws.proofs.NamesFound.{Back}
 use Rattle.machine.specs.Machine.{fits}
-use Rattle.labels.specs.Model.{breaks, name_row, put_row}
-use Rattle.labels.proofs.Standing.{Rep, File, pushed, emit, emits}
+use Rattle.layout.specs.Rows.{put_row}
+use Rattle.labels.specs.Model.{breaks, Names, no_room, name_row, put_name, reported}
+use Rattle.labels.proofs.Standing.{Rep, count, held, rep, File, pushed, emit, emits}
 
 pub record Alike (r q : Rep) : Type 0 where
-  pub written : r.written ≡ q.written
-  pub refusal : r.refusal ≡ q.refusal
-  pub place : r.place ≡ q.place
+  pub names : r.names ≡ q.names
   pub size : length r.reports ≡ length q.reports
-  pub rows : take r.written r.reports ≡ take r.written q.reports
+  pub rows : take (count r.names) r.reports ≡ take (count r.names) q.reports
 
 pub alike_self : (r : Rep) → Alike r r
-alike_self r = record { written = refl; refusal = refl; place = refl; size = refl; rows = refl }
+alike_self r = record { names = refl; size = refl; rows = refl }
 
 pub alike_by : (r q : Rep) → r ≡ q → Alike r q
-alike_by r q e = mathlib.Core.Path.subst (Alike r) e (alike_self r)
+alike_by r q e = subst (Alike r) e (alike_self r)
 
 pub alike_then : (r q p : Rep) → Alike r q → Alike q p → Alike r p
 alike_then r q p a b =
     record {
-      written = a.written ∙ b.written;
-      refusal = a.refusal ∙ b.refusal;
-      place = a.place ∙ b.place;
+      names = a.names ∙ b.names;
       size = a.size ∙ b.size;
-      rows = a.rows ∙ ap (λ n. take n q.reports) a.written ∙ b.rows ∙ ap (λ n. take n p.reports) (sym a.written);
+      rows =
+          a.rows
+          ∙ ap (λ (s : Names). take (count s) q.reports) a.names
+          ∙ b.rows
+          ∙ ap (λ (s : Names). take (count s) p.reports) (sym a.names);
     }
 
 -- a row that fits
@@ -49,7 +44,7 @@ fits_room l w h =
     omega arith
 
 row_put : (w start end mark first : ℕ) (R : List ℕ) → fits (length R) w REPORT_ROW ≡ true
-    → put_row w start end mark first R ≡ (take w R ++ name_row start end mark first) ++ drop (w + REPORT_ROW) R
+    → put_name w start end mark first R ≡ (take w R ++ name_row start end mark first) ++ drop (w + REPORT_ROW) R
 unfolding put_row
 row_put w start end mark first R h =
     let row : List ℕ = name_row start end mark first in
@@ -60,7 +55,7 @@ row_ends w start end mark first R h =
     let e : length (take w R) ≡ w = length-take-le w R (let g : w + REPORT_ROW ≤ length R = fits_room (length R) w h in omega arith) in
     length-append (take w R) (name_row start end mark first) ∙ ap (λ n. n + REPORT_ROW) e
 
-pub put_size : (w start end mark first : ℕ) (R : List ℕ) → length (put_row w start end mark first R) ≡ length R
+pub put_size : (w start end mark first : ℕ) (R : List ℕ) → length (put_name w start end mark first R) ≡ length R
 unfolding put_row
 put_size w start end mark first R = go (fits (length R) w REPORT_ROW)
   where
@@ -69,7 +64,7 @@ put_size w start end mark first R = go (fits (length R) w REPORT_ROW)
     go false = refl
 
 -- what stands before it stays
-put_before : (n w start end mark first : ℕ) (R : List ℕ) → n ≤ w → take n (put_row w start end mark first R) ≡ take n R
+put_before : (n w start end mark first : ℕ) (R : List ℕ) → n ≤ w → take n (put_name w start end mark first R) ≡ take n R
 unfolding put_row
 put_before n w start end mark first R l = go (fits (length R) w REPORT_ROW) refl
   where
@@ -97,12 +92,10 @@ module _ (F : File) where
   -- ---------------------------------------------------------------- alike before, alike after
 
   push_alike : (start end at : ℕ) (r q : Rep) → Alike r q → Alike (pushed F start end at r) (pushed F start end at q)
-  unfolding pushed
+  unfolding pushed reported
   push_alike start end at r q a =
-      let same-q : q ≡ same Q = rw (a.written, a.refusal, a.place) refl in
-      let rooms : fits (length Q) w REPORT_ROW ≡ fits (length R) w REPORT_ROW = ap (λ n. fits n w REPORT_ROW) (sym a.size) in
-      mathlib.Core.Path.subst (λ (p : Rep). Alike (pushed F start end at r) (pushed F start end at p)) (sym same-q)
-      (go (eqb r.refusal 0) (fits (length R) w REPORT_ROW) (fits (length Q) w REPORT_ROW) refl rooms)
+      subst (λ (s : Names). Alike (pushed F start end at r) (pushed F start end at (record { names = s; reports = Q }))) a.names
+      (go r.names a.rows)
     where
       R : List ℕ
       R = r.reports
@@ -110,43 +103,40 @@ module _ (F : File) where
       Q : List ℕ
       Q = q.reports
 
-      w : ℕ
-      w = r.written
+      more : ℕ → List ℕ → Rep
+      more w l = record { names = Ok (w + REPORT_ROW); reports = put_name w start end (low at) first l }
 
-      more : List ℕ → Rep
-      more l = record { written = w + REPORT_ROW; refusal = r.refusal; place = r.place; reports = put_row w start end (low at) first l }
-
-      none : List ℕ → Rep
-      none l = record { written = w; refusal = NO_REPORT_ROOM; place = at; reports = l }
-
-      same : List ℕ → Rep
-      same l = record { written = w; refusal = r.refusal; place = r.place; reports = l }
+      none : ℕ → List ℕ → Rep
+      none w l = record { names = Err (no_room w at); reports = l }
 
       row : List ℕ
       row = name_row start end (low at) first
 
-      both : fits (length R) w REPORT_ROW ≡ true → Alike (more R) (more Q)
-      both h =
+      both : (w : ℕ) → take w R ≡ take w Q → fits (length R) w REPORT_ROW ≡ true → Alike (more w R) (more w Q)
+      both w same h =
           let g : fits (length Q) w REPORT_ROW ≡ true = ap (λ n. fits n w REPORT_ROW) (sym a.size) ∙ h in
           record {
-            written = refl;
-            refusal = refl;
-            place = refl;
+            names = refl;
             size = put_size w start end (low at) first R ∙ a.size ∙ sym (put_size w start end (low at) first Q);
             rows =
                 ap (take (w + REPORT_ROW)) (row_put w start end (low at) first R h)
                 ∙ take_at (take w R ++ row) (drop (w + REPORT_ROW) R) (w + REPORT_ROW) (row_ends w start end (low at) first R h)
-                ∙ ap (λ (l : List ℕ). l ++ row) a.rows
+                ∙ ap (λ (l : List ℕ). l ++ row) same
                 ∙ sym (take_at (take w Q ++ row) (drop (w + REPORT_ROW) Q) (w + REPORT_ROW) (row_ends w start end (low at) first Q g))
                 ∙ sym (ap (take (w + REPORT_ROW)) (row_put w start end (low at) first Q g));
           }
 
-      go : (b c d : Bool) → fits (length R) w REPORT_ROW ≡ c → d ≡ c → Alike (cond b (cond c (more R) (none R)) (same R)) (cond b (cond d (more Q) (none Q)) (same Q))
-      go true true true e f = both e
-      go true true false e f = absurd (mathlib.Core.Bool.false≢true f)
-      go true false true e f = absurd (mathlib.Core.Bool.false≢true (sym f))
-      go true false false e f = record { written = refl; refusal = refl; place = refl; size = a.size; rows = a.rows }
-      go false c d e f = record { written = refl; refusal = refl; place = refl; size = a.size; rows = a.rows }
+      go : (s : Names) → take (count s) R ≡ take (count s) Q
+          → Alike (pushed F start end at (record { names = s; reports = R })) (pushed F start end at (record { names = s; reports = Q }))
+      go (Ok w) same = by (fits (length R) w REPORT_ROW) (fits (length Q) w REPORT_ROW) refl (ap (λ n. fits n w REPORT_ROW) (sym a.size))
+        where
+          by : (b c : Bool) → fits (length R) w REPORT_ROW ≡ b → c ≡ b
+              → Alike (rep (cond b (held (more w R)) (held (none w R)))) (rep (cond c (held (more w Q)) (held (none w Q))))
+          by true true h f = both w same h
+          by true false h f = absurd (false≢true f)
+          by false true h f = absurd (false≢true (sym f))
+          by false false h f = record { names = refl; size = a.size; rows = same }
+      go (Err e) same = record { names = refl; size = a.size; rows = same }
 
   pub emits_alike : (l : List Back) (r q : Rep) → Alike r q → Alike (emits F l r) (emits F l q)
   unfolding emits emit
@@ -164,30 +154,35 @@ module _ (F : File) where
 
   -- the same reports, in the buffer that others left
   abbrev pub back_to : Rep → List ℕ → Rep
-  back_to r l = record { written = r.written; refusal = r.refusal; place = r.place; reports = l }
+  back_to r l = record { names = r.names; reports = l }
 
   pub record Past (n : ℕ) (r q : Rep) : Type 0 where
     pub size : length q.reports ≡ length r.reports
     pub rows : take n q.reports ≡ take n r.reports
-    pub further : n ≤ q.written
+    pub further : n ≤ count q.names
 
-  push_past : (n start end at : ℕ) (r : Rep) → n ≤ r.written → Past n r (pushed F start end at r)
-  unfolding pushed
-  push_past n start end at r l = go (eqb r.refusal 0) (fits (length r.reports) r.written REPORT_ROW)
+  push_past : (n start end at : ℕ) (r : Rep) → n ≤ count r.names → Past n r (pushed F start end at r)
+  unfolding pushed reported
+  push_past n start end at r l = go r.names l
     where
-      more : Rep
-      more = record { written = r.written + REPORT_ROW; refusal = r.refusal; place = r.place; reports = put_row r.written start end (low at) first r.reports }
+      R : List ℕ
+      R = r.reports
 
-      none : Rep
-      none = record { written = r.written; refusal = NO_REPORT_ROOM; place = at; reports = r.reports }
+      go : (s : Names) → n ≤ count s → Past n (record { names = s; reports = R }) (pushed F start end at (record { names = s; reports = R }))
+      go (Ok w) l = by (fits (length R) w REPORT_ROW)
+        where
+          more : Rep
+          more = record { names = Ok (w + REPORT_ROW); reports = put_name w start end (low at) first R }
 
-      go : (b c : Bool) → Past n r (cond b (cond c more none) r)
-      go true true =
-          record { size = put_size r.written start end (low at) first r.reports; rows = put_before n r.written start end (low at) first r.reports l; further = omega arith }
-      go true false = record { size = refl; rows = refl; further = l }
-      go false c = record { size = refl; rows = refl; further = l }
+          none : Rep
+          none = record { names = Err (no_room w at); reports = R }
 
-  emits_past : (n : ℕ) (l : List Back) (r : Rep) → n ≤ r.written → Past n r (emits F l r)
+          by : (b : Bool) → Past n (record { names = Ok w; reports = R }) (rep (cond b (held more) (held none)))
+          by true = record { size = put_size w start end (low at) first R; rows = put_before n w start end (low at) first R l; further = omega arith }
+          by false = record { size = refl; rows = refl; further = l }
+      go (Err e) l = record { size = refl; rows = refl; further = l }
+
+  emits_past : (n : ℕ) (l : List Back) (r : Rep) → n ≤ count r.names → Past n r (emits F l r)
   unfolding emits emit
   emits_past n [] r h = record { size = refl; rows = refl; further = h }
   emits_past n (x ∷ l) r h = go (breaks F.bytes (byte_count all - x.bytes_left) (byte_count all - x.bytes_after)) (λ q g. emits_past n l q g)
@@ -195,7 +190,7 @@ module _ (F : File) where
       one : Rep
       one = pushed F (byte_count all - x.bytes_left) (byte_count all - x.bytes_after) (length all - x.tokens_left) r
 
-      go : (b : Bool) → ((q : Rep) → n ≤ q.written → Past n q (emits F l q)) → Past n r (emits F l (cond b one r))
+      go : (b : Bool) → ((q : Rep) → n ≤ count q.names → Past n q (emits F l q)) → Past n r (emits F l (cond b one r))
       go false k = k r h
       go true k =
           let p : Past n r one = push_past n _ _ _ r h in
@@ -204,5 +199,5 @@ module _ (F : File) where
 
   pub emits_undone : (l : List Back) (r : Rep) → Alike r (back_to r (emits F l r).reports)
   emits_undone l r =
-      let p : Past r.written r (emits F l r) = emits_past r.written l r (omega arith) in
-      record { written = refl; refusal = refl; place = refl; size = sym p.size; rows = sym p.rows }
+      let p : Past (count r.names) r (emits F l r) = emits_past (count r.names) l r (omega arith) in
+      record { names = refl; size = sym p.size; rows = sym p.rows }

@@ -1,11 +1,7 @@
 -- The nodes whose Names the strict setting judges, DtLabel and DtPhandle: no run makes one inside another. The grammar
 -- completes a marker as one of the two only where nothing inside it is one and no call is made; that is computed.
-use Prim.Native.Nat.{ℕ, zero, suc}
-use mathlib.Core.Path.{◌≡◌, refl, ap, sym, ◌∙◌}
-use mathlib.Core.Bool.{Bool, true, false, not, ◌&&◌, ◌||◌, false≢true}
-use mathlib.Core.List.{List, [], ◌∷◌}
-use lib.Dec.{eqb}
-use lib.ListN.{length}
+use Rattle.std.proofs.Common.{ℕ, zero, suc, ◌≡◌, refl, ap, sym, ◌∙◌, Bool, true, false, not, ◌&&◌, ◌||◌, List, [], ◌∷◌, eqb, length}
+use mathlib.Core.Bool.{false≢true}
 use Rattle.definitions.specs.Layout.{MOST_OPEN_CALLS}
 use Rattle.definitions.specs.TokenKind as K
 use Rattle.definitions.specs.Token.{Token, trivia, drop_trivia}

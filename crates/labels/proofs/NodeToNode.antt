@@ -1,155 +1,122 @@
--- The turns of the loop over the judged nodes: what `next_judged` finds is where `nodes_on` comes to.
-use native.Mathlib.Omega.{arith}
-use Prim.Native.Nat.{ℕ, suc, ◌+◌, ◌*◌, ◌/◌, ◌≤◌, ◌<◌}
-use mathlib.Core.Path.{◌≡◌, refl, sym, ◌∙◌, ap, subst}
-use mathlib.Core.Bool.{Bool, true, false, cond, false≢true, ◌||◌}
-use mathlib.Core.List.{List, [], ◌∷◌}
-use lib.Dec.{eqb}
-use lib.ListN.{length, get_or, drop}
-use lib.Seq.{drop-drop}
+-- The turns of the loop over the judged nodes: what `next_judged` finds is where `nodes_on` comes to. Once a report did
+-- not fit nothing changes.
+use Rattle.std.proofs.Common.{◌≡◌, ℕ, suc, ◌+◌, Bool, true, false, cond, ◌&&◌, Option, None, Some, Err, List, [], ◌∷◌, eqb, drop, refl, sym, ap, ◌∙◌, subst, arith}
+use Rattle.std.proofs.Math.Seq.{drop-drop}
 use Rattle.basics.specs.Word.{low}
-use Rattle.definitions.specs.Layout.{EVENT_ROW, EVENT_TAG, EVENT_ARGUMENT, START_NODE, ADD_TOKEN, ADD_COMBINED_TOKEN, FINISH_NODE, LINKED_START_NODE}
+use Rattle.basics.proofs.Tests.{cond-all}
+use Rattle.definitions.specs.NodeKind as N
 use Rattle.definitions.specs.Token.{Token}
 use Rattle.token_rows.specs.declared.token.Seat.{Seat}
 use Rattle.labels.specs.declared.event.Event.{Event}
 use Rattle.labels.specs.declared.event.Event.TheVariants.{Start, Token as AddToken, Name, Finish, Other}
+use Rattle.labels.specs.declared.report.NoReportRoom.{NoReportRoom}
 use Rattle.labels.specs.declared.scan.Found.{Found}
-use Rattle.labels.specs.Model.{Out, seat, solid_after, node_on, judged_kind, event_of, shown, found, next_judged, nodes_on}
-use Rattle.labels.proofs.EventRows.{events_cons, events_end}
+use Rattle.labels.specs.Model.{Out, out, On, on, at_seat, walk_at, with_names, ends, breaks, reported, token_on, name_on, event_on, inside_on, settled, passed, solid_after, node_on, judged_kind, found, next_judged, nodes_on}
 
 -- ---------------------------------------------------------------- what is found
 
--- there are no more, or a judged node starts here
-abbrev lands : List Event → Bool
-lands [] = true
-lands (Start k ∷ es) = judged_kind k
-lands (AddToken ∷ es) = false
-lands (Name n ∷ es) = false
-lands (Finish ∷ es) = false
-lands (Other ∷ es) = false
-
 -- the events es after b tokens come to the same as es' after b'
 abbrev Same : List Event → ℕ → List Event → ℕ → Type 0
-Same es b es' b' = (bytes : List ℕ) (ts : List Token) (first at byte : ℕ) (x : Out)
-    → nodes_on bytes ts first es b at byte x ≡ nodes_on bytes ts first es' b' at byte x
+Same es b es' b' = (bytes : List ℕ) (ts : List Token) (first : ℕ) (p : Seat) (x : Out)
+    → nodes_on bytes ts first es b p x ≡ nodes_on bytes ts first es' b' p x
 
-record Reached (es : List Event) (i behind : ℕ) (f : Found) : Type 0 where
+-- a judged node starts at the event found; r: none of these is one
+record Starts (es : List Event) (i behind : ℕ) (f : Found) : Type 0 where
   skipped : ℕ
   event : f.event ≡ i + skipped
-  landed : lands (drop skipped es) ≡ true
-  same : Same es behind (drop skipped es) f.behind
+  judged : judged_kind f.kind ≡ true
+  same : Same es behind (Start f.kind ∷ drop (suc skipped) es) f.behind
 
-further : (e : Event) (es : List Event) (i behind b : ℕ) (f : Found) → Same (e ∷ es) behind es b → Reached es (i + 1) b f
-    → Reached (e ∷ es) i behind f
-further e es i behind b f s r =
+abbrev Reached : List Event → ℕ → ℕ → Option Found → Type 0
+Reached es i behind None = Same es behind [] 0
+Reached es i behind (Some f) = Starts es i behind f
+
+further : (e : Event) (es : List Event) (i behind b : ℕ) (r : Option Found) → Same (e ∷ es) behind es b → Reached es (i + 1) b r
+    → Reached (e ∷ es) i behind r
+further e es i behind b None s r = λ bytes ts first p x. s bytes ts first p x ∙ r bytes ts first p x
+further e es i behind b (Some f) s r =
     record {
       skipped = suc r.skipped;
       event = omega (arith, r.event);
-      landed = r.landed;
-      same = λ bytes ts first at byte x. s bytes ts first at byte x ∙ r.same bytes ts first at byte x;
+      judged = r.judged;
+      same = λ bytes ts first p x. s bytes ts first p x ∙ r.same bytes ts first p x;
     }
 
 reached : (es : List Event) (i behind : ℕ) → Reached es i behind (next_judged es i behind)
 unfolding next_judged nodes_on
-reached [] i behind = record { skipped = 0; event = omega arith; landed = refl; same = λ bytes ts first at byte x. refl }
+reached [] i behind = λ bytes ts first p x. refl
 reached (Start k ∷ es) i behind = by (judged_kind k) refl (reached es (i + 1) behind)
   where
     by : (b : Bool) → judged_kind k ≡ b → Reached es (i + 1) behind (next_judged es (i + 1) behind)
-        → Reached (Start k ∷ es) i behind (cond b (found i behind) (next_judged es (i + 1) behind))
-    by true e r = record { skipped = 0; event = omega arith; landed = e; same = λ bytes ts first at byte x. refl }
-    by false e r = further (Start k) es i behind _ _ (λ bytes ts first at byte x. rw e) r
-reached (AddToken ∷ es) i behind =
-    further AddToken es i behind _ _ (λ bytes ts first at byte x. refl) (reached es (i + 1) (low (behind + 1)))
-reached (Name n ∷ es) i behind =
-    further (Name n) es i behind _ _ (λ bytes ts first at byte x. refl) (reached es (i + 1) (low (behind + n)))
-reached (Finish ∷ es) i behind = further Finish es i behind _ _ (λ bytes ts first at byte x. refl) (reached es (i + 1) behind)
-reached (Other ∷ es) i behind = further Other es i behind _ _ (λ bytes ts first at byte x. refl) (reached es (i + 1) behind)
-
--- the same among all events l
-record Next (l : List Event) (i : ℕ) (f : Found) : Type 0 where
-  after : i ≤ f.event
-  landed : lands (drop f.event l) ≡ true
-  same : Same (drop i l) 0 (drop f.event l) f.behind
-
-next : (l : List Event) (i : ℕ) (f : Found) → f ≡ next_judged (drop i l) i 0 → Next l i f
-next l i f q = subst (Next l i) (sym q) whole
-  where
-    g : Found
-    g = next_judged (drop i l) i 0
-
-    r : Reached (drop i l) i 0 g
-    r = reached (drop i l) i 0
-
-    there : drop r.skipped (drop i l) ≡ drop g.event l
-    there = drop-drop r.skipped i l ∙ ap (λ (n : ℕ). drop n l) (sym r.event)
-
-    whole : Next l i g
-    whole =
-        record {
-          after = omega (arith, r.event);
-          landed = sym (ap lands there) ∙ r.landed;
-          same =
-              λ bytes ts first at byte x.
-              r.same bytes ts first at byte x ∙ ap (λ es. nodes_on bytes ts first es g.behind at byte x) there;
-        }
-
-pub next_after : (events : List ℕ) (i : ℕ) (f : Found) → f ≡ next_judged (drop i (shown events)) i 0 → i ≤ f.event
-next_after events i f q = (next (shown events) i f q).after
+        → Reached (Start k ∷ es) i behind (cond b (Some (found i k behind)) (next_judged es (i + 1) behind))
+    by true e r = record { skipped = 0; event = omega arith; judged = e; same = λ bytes ts first p x. refl }
+    by false e r = further (Start k) es i behind _ _ (λ bytes ts first p x. rw e) r
+reached (AddToken ∷ es) i behind = further AddToken es i behind _ _ (λ bytes ts first p x. refl) (reached es (i + 1) (low (behind + 1)))
+reached (Name n ∷ es) i behind = further (Name n) es i behind _ _ (λ bytes ts first p x. refl) (reached es (i + 1) (low (behind + n)))
+reached (Finish ∷ es) i behind = further Finish es i behind _ _ (λ bytes ts first p x. refl) (reached es (i + 1) behind)
+reached (Other ∷ es) i behind = further Other es i behind _ _ (λ bytes ts first p x. refl) (reached es (i + 1) behind)
 
 -- ---------------------------------------------------------------- the turns
 
-judged_here : (bytes : List ℕ) (ts : List Token) (first tag a : ℕ) (es : List Event) (behind at byte : ℕ) (x : Out)
-    → lands (event_of tag a ∷ es) ≡ true
-    → nodes_on bytes ts first (event_of tag a ∷ es) behind at byte x
-    ≡ (let p = solid_after behind ts (seat at byte) in
-    nodes_on bytes ts first es 0 p.at p.byte (node_on bytes ts first a es p.at p.byte x))
+-- f: what was found. q: the place of its first token. y: what has become of the reports.
+pub nodes_again : (bytes : List ℕ) (ts : List Token) (first : ℕ) (l : List Event) (i : ℕ) (f : Found) (p q : Seat) (x y : Out)
+    → Some f ≡ next_judged (drop i l) i 0 → q ≡ solid_after f.behind ts p → y ≡ node_on bytes ts first f.kind (drop (f.event + 1) l) q x
+    → nodes_on bytes ts first (drop i l) 0 p x ≡ nodes_on bytes ts first (drop (f.event + 1) l) 0 q y
 unfolding nodes_on
-judged_here bytes ts first tag a es behind at byte x =
-    by (eqb tag ADD_TOKEN) (eqb tag ADD_COMBINED_TOKEN) (eqb tag START_NODE || eqb tag LINKED_START_NODE) (eqb tag FINISH_NODE)
-  where
-    by : (b₁ b₂ b₃ b₄ : Bool) → let e = cond b₁ AddToken (cond b₂ (Name a) (cond b₃ (Start a) (cond b₄ Finish Other))) in
-        lands (e ∷ es) ≡ true
-        → nodes_on bytes ts first (e ∷ es) behind at byte x
-        ≡ (let p = solid_after behind ts (seat at byte) in
-        nodes_on bytes ts first es 0 p.at p.byte (node_on bytes ts first a es p.at p.byte x))
-    by true b₂ b₃ b₄ h = absurd (false≢true h)
-    by false true b₃ b₄ h = absurd (false≢true h)
-    by false false true b₄ h = rw h
-    by false false false true h = absurd (false≢true h)
-    by false false false false h = absurd (false≢true h)
+nodes_again bytes ts first l i f p q x y e t n =
+    let s : Starts (drop i l) i 0 f = subst (Reached (drop i l) i 0) (sym e) (reached (drop i l) i 0) in
+    let rest : drop (suc s.skipped) (drop i l) ≡ drop (f.event + 1) l = drop-drop (suc s.skipped) i l ∙ ap (λ k. drop k l) (omega (arith, s.event)) in
+    rw (n, t) (s.same bytes ts first p x ∙ rw (s.judged, rest))
 
--- f: what was found. p: the place of its first token. y: what has become of the reports.
-pub nodes_again : (bytes : List ℕ) (ts : List Token) (first : ℕ) (events : List ℕ) (i at byte behind : ℕ) (f : Found) (p : Seat) (x y g : Out)
-    → f ≡ next_judged (drop i (shown events)) i 0 → f.event < length events / EVENT_ROW → behind ≡ f.behind
-    → p ≡ solid_after behind ts (seat at byte)
-    → y ≡ node_on bytes ts first (get_or events (f.event * EVENT_ROW + EVENT_ARGUMENT) 0) (drop (f.event + 1) (shown events)) p.at p.byte x
-    → nodes_on bytes ts first (drop i (shown events)) 0 at byte x ≡ g
-    → nodes_on bytes ts first (drop (f.event + 1) (shown events)) 0 p.at p.byte y ≡ g
-nodes_again bytes ts first events i at byte behind f p x y g q h b s t e =
-    let n = next (shown events) i f q in
-    let c = events_cons events f.event h in
-    rw (t, s, b)
-    (sym
-    (n.same bytes ts first at byte x
-    ∙ ap (λ es. nodes_on bytes ts first es f.behind at byte x) c
-    ∙ judged_here bytes ts first (get_or events (f.event * EVENT_ROW + EVENT_TAG) 0) _ _ f.behind at byte x (sym (ap lands c) ∙ n.landed))
-    ∙ e)
-
-nodes_none : (bytes : List ℕ) (ts : List Token) (first : ℕ) (events : List ℕ) (i behind at byte : ℕ) (x : Out)
-    → length events / EVENT_ROW ≤ i → nodes_on bytes ts first (drop i (shown events)) behind at byte x ≡ x
+pub nodes_none : (bytes : List ℕ) (ts : List Token) (first : ℕ) (l : List Event) (i : ℕ) (p : Seat) (x : Out)
+    → None ≡ next_judged (drop i l) i 0 → nodes_on bytes ts first (drop i l) 0 p x ≡ x
 unfolding nodes_on
-nodes_none bytes ts first events i behind at byte x h =
-    ap (λ es. nodes_on bytes ts first es behind at byte x) (events_end events i h)
+nodes_none bytes ts first l i p x e =
+    let s : Same (drop i l) 0 [] 0 = subst (Reached (drop i l) i 0) (sym e) (reached (drop i l) i 0) in
+    s bytes ts first p x
 
-pub nodes_past : (bytes : List ℕ) (ts : List Token) (first : ℕ) (events : List ℕ) (i at byte : ℕ) (f : Found) (x g : Out)
-    → f ≡ next_judged (drop i (shown events)) i 0 → length events / EVENT_ROW ≤ f.event
-    → nodes_on bytes ts first (drop i (shown events)) 0 at byte x ≡ g
-    → nodes_on bytes ts first (drop f.event (shown events)) 0 at byte x ≡ g
-nodes_past bytes ts first events i at byte f x g q h e =
-    nodes_none bytes ts first events f.event 0 at byte x h
-    ∙ sym ((next (shown events) i f q).same bytes ts first at byte x ∙ nodes_none bytes ts first events f.event f.behind at byte x h)
-    ∙ e
+-- ---------------------------------------------------------------- once a report did not fit
 
-pub nodes_end : (bytes : List ℕ) (ts : List Token) (first : ℕ) (events : List ℕ) (i at byte : ℕ) (x g : Out)
-    → length events / EVENT_ROW ≤ i → nodes_on bytes ts first (drop i (shown events)) 0 at byte x ≡ g → x ≡ g
-nodes_end bytes ts first events i at byte x g h e = sym (nodes_none bytes ts first events i 0 at byte x h) ∙ e
+abbrev Refused : NoReportRoom → List ℕ → On → Type 0
+Refused e reports (on w reports') = (w.names ≡ Err e) × (reports' ≡ reports)
+
+event_refused : (bytes : List ℕ) (ts : List Token) (first : ℕ) (v : Event) (e : NoReportRoom) (reports : List ℕ) (x : On)
+    → Refused e reports x → Refused e reports (event_on bytes ts first v x)
+unfolding event_on token_on name_on reported
+event_refused bytes ts first (Start k) e reports (on w r) h = h
+event_refused bytes ts first AddToken e reports (on w r) h = h
+event_refused bytes ts first (Name n) e reports (on w r) h =
+    let end = passed n (drop w.seat.at ts) w.seat in
+    let q = at_seat (solid_after 0 ts end) w in
+    cond-all (Refused e reports) (eqb w.depth 0 && breaks bytes w.seat.byte end.byte)
+    {x = with_names q (reported w.seat.byte end.byte w.seat.at first (out w.names r))} {y = on q r}
+    (rw h.0 (refl, h.1)) h
+event_refused bytes ts first Finish e reports (on w r) h = h
+event_refused bytes ts first Other e reports (on w r) h = h
+
+inside_refused : (bytes : List ℕ) (ts : List Token) (first : ℕ) (es : List Event) (e : NoReportRoom) (reports : List ℕ) (x : On)
+    → Refused e reports x → Refused e reports (inside_on bytes ts first es x)
+unfolding inside_on
+inside_refused bytes ts first [] e reports x h = h
+inside_refused bytes ts first (v ∷ es) e reports (on w r) h =
+    cond-all (Refused e reports) (ends v w.depth) {x = on w r} {y = inside_on bytes ts first es (event_on bytes ts first v (on w r))}
+    h (inside_refused bytes ts first es e reports (event_on bytes ts first v (on w r)) (event_refused bytes ts first v e reports (on w r) h))
+
+settled_refused : (k : ℕ) (e : NoReportRoom) (reports : List ℕ) (x : On) → Refused e reports x → settled k (Err e) x ≡ out (Err e) reports
+settled_refused k e reports (on w r) (h, q) = rw (h, q) (cond-all (λ (x : Out). x ≡ out (Err e) reports) (eqb k N.DtPhandle && w.braced) refl refl)
+
+pub nodes_refused : (bytes : List ℕ) (ts : List Token) (first : ℕ) (es : List Event) (b : ℕ) (p : Seat) (e : NoReportRoom) (reports : List ℕ)
+    → nodes_on bytes ts first es b p (out (Err e) reports) ≡ out (Err e) reports
+unfolding nodes_on node_on
+nodes_refused bytes ts first [] b p e reports = refl
+nodes_refused bytes ts first (Start k ∷ es) b p e reports =
+    let q = solid_after b ts p in
+    cond-all (λ (x : Out). x ≡ out (Err e) reports) (judged_kind k)
+    (ap (nodes_on bytes ts first es 0 q)
+    (settled_refused k e reports _ (inside_refused bytes ts first es e reports (on (walk_at q (Err e)) reports) (refl, refl)))
+    ∙ nodes_refused bytes ts first es 0 q e reports)
+    (nodes_refused bytes ts first es b p e reports)
+nodes_refused bytes ts first (AddToken ∷ es) b p e reports = nodes_refused bytes ts first es _ p e reports
+nodes_refused bytes ts first (Name n ∷ es) b p e reports = nodes_refused bytes ts first es _ p e reports
+nodes_refused bytes ts first (Finish ∷ es) b p e reports = nodes_refused bytes ts first es b p e reports
+nodes_refused bytes ts first (Other ∷ es) b p e reports = nodes_refused bytes ts first es b p e reports

@@ -1,10 +1,6 @@
 -- Past trivia, a seat is where the machine's cursor is; so the contracts of token_rows, which speak of a machine, say
 -- what a seat is.
-use Prim.Native.Nat.{ℕ, ◌+◌, ◌*◌, ◌/◌, ◌<◌}
-use mathlib.Core.List.{List, [], ◌∷◌}
-use mathlib.Core.Path.{◌≡◌, refl, ◌∙◌, ap}
-use mathlib.Core.Bool.{Bool, true, false, cond}
-use lib.ListN.{length, get_or, drop}
+use Rattle.std.proofs.Common.{ℕ, ◌+◌, ◌*◌, ◌/◌, ◌<◌, List, [], ◌∷◌, ◌≡◌, refl, ◌∙◌, ap, Bool, true, false, cond, length, get_or, drop}
 use Rattle.basics.specs.Word.{low}
 use Rattle.definitions.specs.Layout.{TOKEN_ROW, TOKEN_LENGTH}
 use Rattle.definitions.specs.Token.{Token, tokens_of, trivia}

@@ -1,16 +1,8 @@
 -- Places among the tokens of a file, by what is left of them, and the reports written so far.
-use Prim.Native.Nat.{ℕ, zero, suc, ◌+◌, ◌-◌, ◌≤◌, ◌<◌}
-use native.Mathlib.Omega.{arith}
-use native.Mathlib.Nat.{mod-eq_of_lt}
-use mathlib.Core.Path.{◌≡◌, refl, ap, sym, ◌∙◌}
-use mathlib.Core.Bool.{Bool, true, false, cond}
-use mathlib.Core.List.{List, [], ◌∷◌, ◌++◌, append_assoc}
-use lib.Dec.{eqb}
-use lib.ListN.{length, drop, length-append, take, take-append-drop}
-use lib.Seq.{drop_at}
+use Rattle.std.proofs.Common.{ℕ, zero, suc, ◌+◌, ◌-◌, ◌≤◌, ◌<◌, arith, mod-eq_of_lt, ◌≡◌, refl, ap, sym, ◌∙◌, Bool, true, false, cond, List, [], ◌∷◌, ◌++◌, append_assoc, eqb, length, drop, length-append, take, take-append-drop, drop_at, Ok, Err}
 use Rattle.basics.specs.Word.{low}
-use Rattle.basics.proofs.Tests.{eqb_swap}
-use Rattle.definitions.specs.Layout.{REPORT_ROW, NO_REPORT_ROOM, TWO_TO_32}
+use Rattle.basics.proofs.Tests.{eqb_swap, cond-all}
+use Rattle.definitions.specs.Layout.{TWO_TO_32}
 use Rattle.definitions.specs.TokenKind as K
 use Rattle.definitions.specs.Token.{Token, seen, one_of, first_in, trivia, drop_trivia, past, byte_count}
 use Rattle.definitions.specs.Skeleton.{Skeleton, done, token, name, node, ignored, report, over}
@@ -18,10 +10,8 @@ use Rattle.definitions.specs.Place.{after}
 use Rattle.laws.proofs.Skeleton.{bytes_append}
 use Rattle.laws.proofs.Trivia.{drop_twice}
 use Rattle.laws.proofs.NamesFound.{Back, first_curly}
-use Rattle.machine.specs.Machine.{fits}
 use Rattle.token_rows.specs.declared.token.Seat.{Seat}
-use Rattle.labels.specs.declared.report.Names.{Names}
-use Rattle.labels.specs.Model.{breaks, next_seat, passed, past_solid, first_solid, solid_after, Out, out, put_row, reported}
+use Rattle.labels.specs.Model.{breaks, next_seat, passed, past_solid, first_solid, solid_after, Names, Out, out, reported}
 use Rattle.labels.proofs.Taken.{Firsts}
 
 -- ---------------------------------------------------------------- lists of tokens
@@ -97,22 +87,28 @@ pub solid_shorter : (ts : List Token) → length (drop_trivia ts) ≤ length ts
 unfolding drop_trivia
 solid_shorter [] = omega arith
 solid_shorter (t ∷ ts) = let h : length (drop_trivia ts) ≤ length ts = solid_shorter ts in
-    Rattle.basics.proofs.Tests.cond-all (λ (l : List Token). length l ≤ suc (length ts)) (trivia t) {x = drop_trivia ts} {y = t ∷ ts} (omega arith) (omega arith)
+    cond-all (λ (l : List Token). length l ≤ suc (length ts)) (trivia t) {x = drop_trivia ts} {y = t ∷ ts} (omega arith) (omega arith)
 
 -- ---------------------------------------------------------------- reports, and a file
 
+-- how many numbers are written
+abbrev pub count : Names → ℕ
+count (Ok written) = written
+count (Err e) = e.written
+
 -- what has become of them, with the buffer
 pub record Rep : Type 0 where
-  pub written : ℕ
-  pub refusal : ℕ
-  pub place : ℕ
+  pub names : Names
   pub reports : List ℕ
 
-abbrev pub names_of : Rep → Names
-names_of r = record { written = r.written; refusal = r.refusal; place = r.place }
-
 abbrev pub held : Rep → Out
-held r = out (names_of r) r.reports
+held r = out r.names r.reports
+
+abbrev pub rep : Out → Rep
+rep (out s reports) = record { names = s; reports = reports }
+
+held_rep : (x : Out) → x ≡ held (rep x)
+held_rep (out s reports) = refl
 
 pub record File : Type 0 where
   pub bytes : List ℕ
@@ -160,7 +156,7 @@ module _ (F : File) where
   pub part_solid : (ts : List Token) → Part ts → Part (drop_trivia ts)
   unfolding drop_trivia
   part_solid [] h = h
-  part_solid (t ∷ ts) h = Rattle.basics.proofs.Tests.cond-all Part (trivia t) {x = drop_trivia ts} {y = t ∷ ts} (part_solid ts (part_next t ts h)) h
+  part_solid (t ∷ ts) h = cond-all Part (trivia t) {x = drop_trivia ts} {y = t ∷ ts} (part_solid ts (part_next t ts h)) h
 
   pub part_after : (o : Skeleton) (ts : List Token) → Part ts → Part (after o ts)
   unfolding after
@@ -225,7 +221,7 @@ module _ (F : File) where
   part_beyond zero ts h = h
   part_beyond (suc n) [] h = h
   part_beyond (suc n) (t ∷ ts) h =
-      Rattle.basics.proofs.Tests.cond-all Part (trivia t) {x = beyond (suc n) ts} {y = beyond n ts} (part_beyond (suc n) ts (part_next t ts h)) (part_beyond n ts (part_next t ts h))
+      cond-all Part (trivia t) {x = beyond (suc n) ts} {y = beyond n ts} (part_beyond (suc n) ts (part_next t ts h)) (part_beyond n ts (part_next t ts h))
 
   pub solid_there : (n : ℕ) (ts : List Token) → Part ts → solid_after n all (seated ts) ≡ seated (drop_trivia (beyond n ts))
   unfolding solid_after
@@ -236,11 +232,8 @@ module _ (F : File) where
   -- ---------------------------------------------------------------- reports
 
   unfoldable pub pushed : ℕ → ℕ → ℕ → Rep → Rep
-  unfolding put_row
-  pushed start end at r =
-      let more : Rep = record { written = r.written + REPORT_ROW; refusal = r.refusal; place = r.place; reports = put_row r.written start end (low at) first r.reports } in
-      let none : Rep = record { written = r.written; refusal = NO_REPORT_ROOM; place = at; reports = r.reports } in
-      cond (eqb r.refusal 0) (cond (fits (length r.reports) r.written REPORT_ROW) more none) r
+  unfolding reported
+  pushed start end at r = rep (reported start end at first (held r))
 
   unfoldable pub emit : Back → Rep → Rep
   unfolding pushed breaks
@@ -260,16 +253,5 @@ module _ (F : File) where
   emits_append (x ∷ l) m r = emits_append l m (emit x r)
 
   pub reported_held : (r : Rep) (start end at : ℕ) → reported start end at first (held r) ≡ held (pushed start end at r)
-  unfolding reported pushed
-  reported_held r start end at = go (eqb r.refusal 0) (fits (length r.reports) r.written REPORT_ROW)
-    where
-      more : Rep
-      more = record { written = r.written + REPORT_ROW; refusal = r.refusal; place = r.place; reports = put_row r.written start end (low at) first r.reports }
-
-      none : Rep
-      none = record { written = r.written; refusal = NO_REPORT_ROOM; place = at; reports = r.reports }
-
-      go : (a b : Bool) → cond a (cond b (held more) (held none)) (held r) ≡ held (cond a (cond b more none) r)
-      go true true = refl
-      go true false = refl
-      go false b = refl
+  unfolding pushed
+  reported_held r start end at = held_rep (reported start end at first (held r))

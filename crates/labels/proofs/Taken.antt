@@ -1,12 +1,7 @@
 -- Each token and each raw token of a name that a run makes is there among the file's tokens, and is not trivia: the run
 -- reads them off the file (Between), and its names are of the kinds of a name (Names).
-use Prim.Native.Nat.{ℕ, zero, suc}
-use mathlib.Core.Path.{◌≡◌, refl, sym, ◌∙◌, subst}
-use mathlib.Core.Bool.{Bool, true, false, false≢true, ◌||◌}
-use mathlib.Core.List.{List, [], ◌∷◌, ◌++◌}
-use lib.Dec.{eqb}
-use lib.ListN.{length, drop}
-use borrow.Author.Tests.{eqb-true}
+use Rattle.std.proofs.Common.{ℕ, zero, suc, ◌≡◌, refl, sym, ◌∙◌, subst, Bool, true, false, ◌||◌, List, [], ◌∷◌, ◌++◌, eqb, length, drop, eqb-true}
+use mathlib.Core.Bool.{false≢true}
 use Rattle.definitions.specs.TokenKind as K
 use Rattle.definitions.specs.Check.{NAME_SET}
 use Rattle.definitions.specs.Token.{Token, is_error, seen, trivia, is_trivia, drop_trivia, one_of, past}

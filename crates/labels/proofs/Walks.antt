@@ -1,12 +1,9 @@
 -- A walk through the events inside a node. Deep in it nothing is judged and only the place moves on; what stands
 -- directly in it is seen: an LCurly, and the Names that are judged.
-use Prim.Native.Nat.{ℕ, suc, ◌+◌, ◌-◌}
-use native.Mathlib.Omega.{arith}
-use mathlib.Core.Path.{◌≡◌, refl, ap, sym, ◌∙◌}
-use mathlib.Core.Bool.{Bool, true, false, cond, ◌&&◌, ◌||◌}
-use mathlib.Core.List.{List, [], ◌∷◌, ◌++◌, append_assoc}
-use lib.Dec.{eqb}
-use lib.ListN.{length, drop}
+use Rattle.std.proofs.Common.{ℕ, suc, ◌+◌, ◌-◌, arith, ◌≡◌, refl, ap, sym, ◌∙◌, Bool, true, false, cond, ◌&&◌, ◌||◌, List, [], ◌∷◌, ◌++◌, append_assoc, eqb, length, drop, not, eqb-true}
+use mathlib.Core.Bool.{false≢true}
+use Rattle.std.proofs.Math.Bool.{or_assoc, or_comm, or-false}
+use Rattle.std.proofs.Math.Dec.{eqb-suc-zero}
 use Rattle.definitions.specs.NodeKind as N
 use Rattle.definitions.specs.Token.{Token, drop_trivia, past, byte_count}
 use Rattle.definitions.specs.Skeleton.{Skeleton, done, token, name, node, ignored, report, over}
@@ -17,20 +14,20 @@ use Rattle.sink.specs.Encode.{Chained}
 use Rattle.labels.specs.declared.event.Event.{Event}
 use Rattle.labels.specs.declared.event.Event.TheVariants.{Start, Finish, Other}
 use Rattle.labels.specs.declared.node.Walk.{Walk}
-use Rattle.labels.specs.Model.{breaks, out, judged_kind, On, on, with_names, token_on, name_on, event_on, inside_on, settled, node_on}
+use Rattle.labels.specs.Model.{breaks, out, judged_kind, On, on, with_names, token_on, name_on, event_on, inside_on, settled, node_on, reported, solid_after}
 use Rattle.labels.proofs.JudgedNodes.{Plain}
 use Rattle.labels.proofs.Taken.{Firsts, Taken}
 use Rattle.labels.proofs.Alone.{alone_curly, alone_found}
-use Rattle.labels.proofs.Standing.{Rep, names_of, held, File, Part, part_past, part_drop, part_solid, part_after, seated, seat_there, passed_seat, solid_there, beyond, beyond_firsts, curly_first, past_drop, pushed, emit, emits, emits_append, reported_held}
-use Rattle.labels.proofs.Alike.{Alike, alike_self, emits_undone}
+use Rattle.labels.proofs.Standing.{Rep, held, File, Part, part_past, part_drop, part_solid, part_after, seated, seat_there, passed_seat, solid_there, beyond, beyond_firsts, curly_first, past_drop, pushed, emit, emits, emits_append, reported_held}
+use Rattle.labels.proofs.Alike.{Alike, alike_self, emits_undone, back_to}
 use Rattle.labels.proofs.Told.{told}
 
 pub not_under : (k : ℕ) (c : Bool) → judged_kind k ≡ false → under k c ≡ false
 not_under k c h = go (eqb k N.DtLabel) (eqb k N.DtPhandle) h
   where
-    go : (x y : Bool) → (x || y) ≡ false → (x || (y && mathlib.Core.Bool.not c)) ≡ false
+    go : (x y : Bool) → (x || y) ≡ false → (x || (y && not c)) ≡ false
     go true y e = e
-    go false true e = absurd (mathlib.Core.Bool.false≢true (sym e))
+    go false true e = absurd (false≢true (sym e))
     go false false e = refl
 
 -- no judged node, no judged Name
@@ -58,13 +55,6 @@ plain_node u k m m' a i o ts p pa pi =
     ap (λ (b : Bool). found b a w ++ (found b i v ++ found u o (after i v))) (not_under k (curly a w || curly i v) p)
     ∙ rw (plain_none a w pa, plain_none i v pi) refl
 
-deeper : (d : ℕ) → eqb (suc d) 0 ≡ false
-deeper d = go (eqb (suc d) 0) refl
-  where
-    go : (b : Bool) → eqb (suc d) 0 ≡ b → b ≡ false
-    go false e = refl
-    go true e = let z : suc d ≡ 0 = borrow.Author.Tests.eqb-true (suc d) 0 e in absurd (omega arith)
-
 module _ (F : File) where
   abbrev bytes : List ℕ
   bytes = F.bytes
@@ -77,7 +67,7 @@ module _ (F : File) where
 
   -- before these tokens, d nodes deep; b: an LCurly was seen
   abbrev pub walking : List Token → ℕ → Bool → Rep → Walk
-  walking ts d b r = record { depth = d; at = length all - length ts; byte = byte_count all - byte_count ts; braced = b; names = names_of r }
+  walking ts d b r = record { depth = d; seat = seated F ts; braced = b; names = r.names }
 
   abbrev pub state : List Token → ℕ → Bool → Rep → On
   state ts d b r = on (walking ts d b r) r.reports
@@ -88,7 +78,7 @@ module _ (F : File) where
   -- ---------------------------------------------------------------- a token, a name
 
   abbrev brace : ℕ → Bool → Bool → Bool
-  brace d c b = cond (eqb d 0) (cond c true b) b
+  brace d c b = (eqb d 0 && c) || b
 
   token_walk : (ts : List Token) (d : ℕ) (b : Bool) (r : Rep) → Part F ts → Firsts 1 (drop_trivia ts)
       → token_on all (walking (drop_trivia ts) d b r) ≡ walking (drop_trivia (past (drop_trivia ts))) d (brace d (first_curly (drop_trivia ts)) b) r
@@ -99,7 +89,7 @@ module _ (F : File) where
       let e : beyond 1 v ≡ past v = beyond_firsts 1 v f ∙ past_drop v in
       rw (solid_there F 1 v g, seat_there F v g, curly_first v, e) refl
 
-  name_end : (n : ℕ) (v : List Token) → Part F v → Rattle.labels.specs.Model.solid_after 0 all (seated F (drop n v)) ≡ seated F (drop_trivia (drop n v))
+  name_end : (n : ℕ) (v : List Token) → Part F v → solid_after 0 all (seated F (drop n v)) ≡ seated F (drop_trivia (drop n v))
   unfolding beyond
   name_end n v g = solid_there F 0 (drop n v) (part_drop F n v g)
 
@@ -110,7 +100,7 @@ module _ (F : File) where
   name_deep n ts d b r h =
       let v : List Token = drop_trivia ts in
       let g : Part F v = part_solid F ts h in
-      rw (deeper d, seat_there F v g, passed_seat F n v g, name_end n v g) refl
+      rw (eqb-suc-zero d, seat_there F v g, passed_seat F n v g, name_end n v g) refl
 
   name_direct : (n : ℕ) (ts : List Token) (b : Bool) (r : Rep) → Part F ts
       → name_on bytes all first n (state (drop_trivia ts) 0 b r)
@@ -136,7 +126,7 @@ module _ (F : File) where
       at = length all - length v
 
       go : (c : Bool)
-          → cond c (with_names (walking (drop_trivia u) 0 b r) (Rattle.labels.specs.Model.reported start end at first (held r))) (state (drop_trivia u) 0 b r)
+          → cond c (with_names (walking (drop_trivia u) 0 b r) (reported start end at first (held r))) (state (drop_trivia u) 0 b r)
           ≡ state (drop_trivia u) 0 b (cond c (pushed F start end at r) r)
       go true = ap (with_names (walking (drop_trivia u) 0 b r)) (reported_held F r start end at)
       go false = refl
@@ -150,7 +140,7 @@ module _ (F : File) where
   deep (token x m o) ts d b r es h (f, t) =
       let v : List Token = drop_trivia ts in
       ap (λ (w : Walk). inside (told o ++ es) (on w r.reports)) (token_walk ts (suc d) b r h f)
-      ∙ ap (λ (c : Bool). inside (told o ++ es) (state (drop_trivia (past v)) (suc d) (cond c (cond (first_curly v) true b) b) r)) (deeper d)
+      ∙ ap (λ (c : Bool). inside (told o ++ es) (state (drop_trivia (past v)) (suc d) ((c && first_curly v) || b) r)) (eqb-suc-zero d)
       ∙ deep o (past v) d b r es (part_past F v (part_solid F ts h)) t
   deep (name raw m o) ts d b r es h (f, t) =
       let v : List Token = drop_trivia ts in
@@ -170,7 +160,7 @@ module _ (F : File) where
       ∙ deep a w d b r (Start k ∷ (told i ++ end)) hw ta
       ∙ ap (λ n. inside (told i ++ end) (state (drop_trivia v) n b r)) up
       ∙ deep i v (suc d) b r end hv ti
-      ∙ ap (λ (c : Bool). cond c (state (drop_trivia (after i v)) (suc (suc d)) b r) (inside (told o ++ es) (state (drop_trivia (after i v)) (suc (suc d) - 1) b r))) (deeper (suc d))
+      ∙ ap (λ (c : Bool). cond c (state (drop_trivia (after i v)) (suc (suc d)) b r) (inside (told o ++ es) (state (drop_trivia (after i v)) (suc (suc d) - 1) b r))) (eqb-suc-zero (suc d))
       ∙ ap (λ n. inside (told o ++ es) (state (drop_trivia (after i v)) n b r)) down
       ∙ deep o (after i v) d b r es (part_after F i v hv) to
   deep (ignored m m' a i o) ts d b r es h (ta, (ti, to)) =
@@ -187,32 +177,21 @@ module _ (F : File) where
 
   -- ---------------------------------------------------------------- directly in it
 
-  or_cond : (c b : Bool) → cond c true b ≡ (b || c)
-  or_cond true true = refl
-  or_cond true false = refl
-  or_cond false true = refl
-  or_cond false false = refl
-
-  or_again : (a b c : Bool) → ((a || b) || c) ≡ (a || (b || c))
-  or_again true b c = refl
-  or_again false b c = refl
-
   or_none : (b c : Bool) → c ≡ false → (b || c) ≡ b
-  or_none true c e = refl
-  or_none false c e = e
+  or_none b c e = rw e (or-false b)
 
   -- what stands directly there is seen, and its Names are judged
   direct : (o : Skeleton) (ts : List Token) (b : Bool) (r : Rep) (es : List Event) → Part F ts → Chained o → Plain o → Taken o ts
       → inside (told o ++ es) (state (drop_trivia ts) 0 b r) ≡ inside es (state (drop_trivia (after o ts)) 0 (b || curly o ts) (emits F (found true o ts) r))
   unfolding told after Taken Chained Plain curly found emits inside_on event_on
-  direct done ts b r es h c p t = ap (λ (x : Bool). inside es (state (drop_trivia ts) 0 x r)) (sym (or_none b false refl))
+  direct done ts b r es h c p t = ap (λ (x : Bool). inside es (state (drop_trivia ts) 0 x r)) (sym (or-false b))
   direct (token x m o) ts b r es h c p (f, t) =
       let v : List Token = drop_trivia ts in
       let q : Bool = first_curly v in
       ap (λ (w : Walk). inside (told o ++ es) (on w r.reports)) (token_walk ts 0 b r h f)
-      ∙ ap (λ (x : Bool). inside (told o ++ es) (state (drop_trivia (past v)) 0 x r)) (or_cond q b)
+      ∙ ap (λ (x : Bool). inside (told o ++ es) (state (drop_trivia (past v)) 0 x r)) (or_comm q b)
       ∙ direct o (past v) (b || q) r es (part_past F v (part_solid F ts h)) c p t
-      ∙ ap (λ (x : Bool). inside es (state (drop_trivia (after o (past v))) 0 x (emits F (found true o (past v)) r))) (or_again b q (curly o (past v)))
+      ∙ ap (λ (x : Bool). inside es (state (drop_trivia (after o (past v))) 0 x (emits F (found true o (past v)) r))) (or_assoc b q (curly o (past v)))
   direct (name raw m o) ts b r es h c p (f, t) =
       let v : List Token = drop_trivia ts in
       let u : List Token = drop (length raw) v in
@@ -250,7 +229,7 @@ module _ (F : File) where
       ∙ direct i v (b || curly a ts) (emits F f r) end hv ci pi ti
       ∙ direct o x ((b || curly a ts) || curly i v) (emits F g (emits F f r)) es (part_after F i v hv) co po to
       ∙ ap (λ (y : Bool). inside es (state (drop_trivia (after o x)) 0 y (emits F k (emits F g (emits F f r)))))
-      (or_again (b || curly a ts) (curly i v) (curly o x) ∙ or_again b (curly a ts) (curly i v || curly o x))
+      (or_assoc (b || curly a ts) (curly i v) (curly o x) ∙ or_assoc b (curly a ts) (curly i v || curly o x))
       ∙ ap (λ (q : Rep). inside es (state (drop_trivia (after o x)) 0 (b || (curly a ts || (curly i v || curly o x))) q))
       (sym (emits_append F f (g ++ k) r ∙ emits_append F g k (emits F f r)))
   direct (report y o) ts b r es h c p t = direct o ts b r es h c p t
@@ -274,7 +253,7 @@ module _ (F : File) where
   pub record Node-judged (k : ℕ) (i : Skeleton) (ts : List Token) (es : List Event) (r : Rep) : Type 0 where
     pub last : Rep
     pub alike : Alike (emits F (found (under k (curly i ts)) i ts) r) last
-    pub runs : node_on bytes all first k (told i ++ es) (seated F (drop_trivia ts)).at (seated F (drop_trivia ts)).byte (held r) ≡ held last
+    pub runs : node_on bytes all first k (told i ++ es) (seated F (drop_trivia ts)) (held r) ≡ held last
 
   pub node_judged : (k : ℕ) (i : Skeleton) (ts : List Token) (es : List Event) (r : Rep) → judged_kind k ≡ true → Part F ts → Chained i → Plain i → Taken i ts → Closes es
       → Node-judged k i ts es r
@@ -288,21 +267,21 @@ module _ (F : File) where
       inner = direct i ts false r es h c p t ∙ e (drop_trivia (after i ts)) (curly i ts) names
 
       by : (y z : Bool) → eqb k N.DtPhandle ≡ y → curly i ts ≡ z
-          → node_on bytes all first k (told i ++ es) (seated F (drop_trivia ts)).at (seated F (drop_trivia ts)).byte (held r)
-          ≡ cond y (cond z (out (names_of r) names.reports) (held names)) (held names)
-      by y z f g = ap (settled k (names_of r)) inner ∙ rw (f, g) refl
+          → node_on bytes all first k (told i ++ es) (seated F (drop_trivia ts)) (held r)
+          ≡ cond (y && z) (out r.names names.reports) (held names)
+      by y z f g = ap (settled k r.names) inner ∙ rw (f, g) refl
 
       go : (x : Bool) → eqb k N.DtLabel ≡ x → (y : Bool) → eqb k N.DtPhandle ≡ y → (z : Bool) → curly i ts ≡ z → (x || y) ≡ true → Node-judged k i ts es r
       go true a true f z g q =
-          let m : k ≡ N.DtLabel = borrow.Author.Tests.eqb-true k N.DtLabel a in
-          let n : k ≡ N.DtPhandle = borrow.Author.Tests.eqb-true k N.DtPhandle f in
+          let m : k ≡ N.DtLabel = eqb-true k N.DtLabel a in
+          let n : k ≡ N.DtPhandle = eqb-true k N.DtPhandle f in
           absurd (omega arith)
       go true a false f z g q = record { last = names; alike = rw a (alike_self names); runs = by false z f g }
       go false a true f false g q = record { last = names; alike = rw (a, f, g) (alike_self names); runs = by true false f g }
       go false a true f true g q =
           record {
-            last = Rattle.labels.proofs.Alike.back_to F r names.reports;
+            last = back_to F r names.reports;
             alike = rw (a, f, g, plain_none i ts p) (emits_undone F (found true i ts) r);
             runs = by true true f g;
           }
-      go false a false f z g q = absurd (mathlib.Core.Bool.false≢true q)
+      go false a false f z g q = absurd (false≢true q)

@@ -1,9 +1,8 @@
 -- What the code does, step by step, over the numbers of the lent buffers, whatever they are. Each definition is the
 -- model of the function whose contract cites it. No part of the exported promise.
-use Rattle.std.specs.Prelude.{ℕ, zero, suc, ◌+◌, ◌-◌, ◌*◌, Bool, true, false, cond, not, ◌&&◌, ◌||◌, List, [], ◌∷◌, leb, eqb, length, get_or, take, drop}
-use Rattle.std.proofs.lemmas.List.Edits.{sets}
+use Rattle.std.specs.Prelude.{ℕ, zero, suc, ◌+◌, ◌-◌, ◌*◌, Bool, false, cond, not, ◌&&◌, ◌||◌, Option, None, Some, Result, Ok, Err, List, [], ◌∷◌, leb, eqb, length, get_or, take, drop}
 use Rattle.basics.specs.Word.{low}
-use Rattle.definitions.specs.Layout.{EVENT_ROW, EVENT_TAG, EVENT_ARGUMENT, REPORT_ROW, NO_REPORT_ROOM, OLD_SETTING}
+use Rattle.definitions.specs.Layout.{EVENT_ROW, EVENT_TAG, EVENT_ARGUMENT, REPORT_ROW, OLD_SETTING}
 use Rattle.definitions.specs.Layout.{START_NODE, ADD_TOKEN, ADD_COMBINED_TOKEN, FINISH_NODE, LINKED_START_NODE}
 use Rattle.definitions.specs.TokenKind as K
 use Rattle.definitions.specs.NodeKind as N
@@ -11,10 +10,11 @@ use Rattle.definitions.specs.Errors as E
 use Rattle.definitions.specs.Token.{Token, trivia, first_in}
 use Rattle.definitions.specs.Strict.{keeps_rule}
 use Rattle.machine.specs.Machine.{fits}
+use Rattle.layout.specs.Rows.{put_row}
 use Rattle.token_rows.specs.declared.token.Seat.{Seat}
 use Rattle.labels.specs.declared.event.Event.{Event}
 use Rattle.labels.specs.declared.event.Event.TheVariants.{Start, Token as AddToken, Name, Finish, Other}
-use Rattle.labels.specs.declared.report.Names.{Names}
+use Rattle.labels.specs.declared.report.NoReportRoom.{NoReportRoom}
 use Rattle.labels.specs.declared.node.Walk.{Walk}
 use Rattle.labels.specs.declared.scan.Found.{Found}
 
@@ -22,8 +22,7 @@ use Rattle.labels.specs.declared.scan.Found.{Found}
 
 unfoldable pub breaks : List ℕ → ℕ → ℕ → Bool
 unfolding keeps_rule
-breaks bytes start end =
-    cond (leb start end) (cond (leb end (length bytes)) (not (keeps_rule (take (end - start) (drop start bytes)))) false) false
+breaks bytes start end = leb start end && leb end (length bytes) && not (keeps_rule (take (end - start) (drop start bytes)))
 
 -- ---------------------------------------------------------------- events
 
@@ -77,27 +76,29 @@ solid_after n ts p = let q = past_solid n (drop p.at ts) p in first_solid (drop 
 
 -- ---------------------------------------------------------------- reports
 
--- what has become of them, with their buffer
+-- what has become of them: how many numbers are written, or the first that did not fit
+abbrev pub Names : Type 0
+Names = Result ℕ NoReportRoom
+
+-- the same, with their buffer
 pub data Out : Type 0 where
   out : Names → List ℕ → Out
 
-abbrev pub begun : ℕ → Names
-begun written = record { written = written; refusal = 0; place = 0 }
+abbrev pub no_room : ℕ → ℕ → NoReportRoom
+no_room written mark = record { written = written; mark = mark }
 
 abbrev pub name_row : ℕ → ℕ → ℕ → ℕ → List ℕ
 name_row start end mark first = E.not_a_label ∷ start ∷ end ∷ mark ∷ first ∷ 0 ∷ E.no_hint ∷ 0 ∷ 0 ∷ []
 
-unfoldable pub put_row : ℕ → ℕ → ℕ → ℕ → ℕ → List ℕ → List ℕ
-put_row index start end mark first reports =
-    cond (fits (length reports) index REPORT_ROW) (sets reports index (name_row start end mark first)) reports
+abbrev pub put_name : ℕ → ℕ → ℕ → ℕ → ℕ → List ℕ → List ℕ
+put_name index start end mark first reports = put_row REPORT_ROW index (name_row start end mark first) reports
 
 unfoldable pub reported : ℕ → ℕ → ℕ → ℕ → Out → Out
 unfolding put_row
-reported start end at first (out s reports) =
-    let row = put_row s.written start end (low at) first reports in
-    let more = out (record { written = s.written + REPORT_ROW; refusal = s.refusal; place = s.place }) row in
-    let none = out (record { written = s.written; refusal = NO_REPORT_ROOM; place = at }) reports in
-    cond (eqb s.refusal 0) (cond (fits (length reports) s.written REPORT_ROW) more none) (out s reports)
+reported start end at first (out (Ok written) reports) =
+    let row = put_name written start end (low at) first reports in
+    cond (fits (length reports) written REPORT_ROW) (out (Ok (written + REPORT_ROW)) row) (out (Err (no_room written at)) reports)
+reported start end at first (out (Err e) reports) = out (Err e) reports
 
 -- ---------------------------------------------------------------- inside a node
 
@@ -108,23 +109,20 @@ judged_kind k = eqb k N.DtLabel || eqb k N.DtPhandle
 pub data On : Type 0 where
   on : Walk → List ℕ → On
 
-abbrev pub walk_at : ℕ → ℕ → Names → Walk
-walk_at at byte s = record { depth = 0; at = at; byte = byte; braced = false; names = s }
-
-abbrev pub seat_of : Walk → Seat
-seat_of w = seat w.at w.byte
+abbrev pub walk_at : Seat → Names → Walk
+walk_at p s = record { depth = 0; seat = p; braced = false; names = s }
 
 abbrev pub at_seat : Seat → Walk → Walk
-at_seat p w = record { depth = w.depth; at = p.at; byte = p.byte; braced = w.braced; names = w.names }
+at_seat p w = record w { seat = p }
 
 abbrev pub at_depth : ℕ → Walk → Walk
-at_depth d w = record { depth = d; at = w.at; byte = w.byte; braced = w.braced; names = w.names }
+at_depth d w = record w { depth = d }
 
 abbrev pub with_braced : Bool → Walk → Walk
-with_braced b w = record { depth = w.depth; at = w.at; byte = w.byte; braced = b; names = w.names }
+with_braced b w = record w { braced = b }
 
 abbrev pub with_names : Walk → Out → On
-with_names w (out s reports) = on (record { depth = w.depth; at = w.at; byte = w.byte; braced = w.braced; names = s }) reports
+with_names w (out s reports) = on (record w { names = s }) reports
 
 abbrev pub ends : Event → ℕ → Bool
 ends (Start k) d = false
@@ -136,16 +134,16 @@ ends Other d = false
 unfoldable pub token_on : List Token → Walk → Walk
 unfolding solid_after first_in
 token_on ts w =
-    let curly = first_in (K.LCurly ∷ []) (drop w.at ts) in
-    with_braced (cond (eqb w.depth 0) (cond curly true w.braced) w.braced) (at_seat (solid_after 1 ts (seat_of w)) w)
+    let curly = first_in (K.LCurly ∷ []) (drop w.seat.at ts) in
+    with_braced ((eqb w.depth 0 && curly) || w.braced) (at_seat (solid_after 1 ts w.seat) w)
 
 unfoldable pub name_on : List ℕ → List Token → ℕ → ℕ → On → On
 unfolding passed solid_after breaks reported
 name_on bytes ts first n (on w reports) =
-    let end = passed n (drop w.at ts) (seat_of w) in
+    let end = passed n (drop w.seat.at ts) w.seat in
     let q = at_seat (solid_after 0 ts end) w in
-    cond (eqb w.depth 0 && breaks bytes w.byte end.byte)
-    (with_names q (reported w.byte end.byte w.at first (out w.names reports))) (on q reports)
+    cond (eqb w.depth 0 && breaks bytes w.seat.byte end.byte)
+    (with_names q (reported w.seat.byte end.byte w.seat.at first (out w.names reports))) (on q reports)
 
 unfoldable pub event_on : List ℕ → List Token → ℕ → Event → On → On
 unfolding token_on name_on
@@ -164,50 +162,49 @@ inside_on bytes ts first (e ∷ es) (on w reports) =
 
 -- a DtPhandle with an LCurly reports nothing
 abbrev pub settled : ℕ → Names → On → Out
-settled kind s (on w reports) = cond (eqb kind N.DtPhandle) (cond w.braced (out s reports) (out w.names reports)) (out w.names reports)
+settled kind s (on w reports) = cond (eqb kind N.DtPhandle && w.braced) (out s reports) (out w.names reports)
 
--- the node of this kind whose events begin here
-unfoldable pub node_on : List ℕ → List Token → ℕ → ℕ → List Event → ℕ → ℕ → Out → Out
+-- the node of this kind whose events begin here; p: its first token that is not trivia
+unfoldable pub node_on : List ℕ → List Token → ℕ → ℕ → List Event → Seat → Out → Out
 unfolding inside_on
-node_on bytes ts first kind es at byte (out s reports) = settled kind s (inside_on bytes ts first es (on (walk_at at byte s) reports))
+node_on bytes ts first kind es p (out s reports) = settled kind s (inside_on bytes ts first es (on (walk_at p s) reports))
 
 -- ---------------------------------------------------------------- from node to node
 
-abbrev pub found : ℕ → ℕ → Found
-found i behind = record { event = i; behind = behind }
+abbrev pub found : ℕ → ℕ → ℕ → Found
+found i kind behind = record { event = i; kind = kind; behind = behind }
 
 -- i: the first of these events. behind: how many tokens that are not trivia were taken.
-unfoldable pub next_judged : List Event → ℕ → ℕ → Found
-next_judged [] i behind = found i behind
-next_judged (Start k ∷ es) i behind = let later = next_judged es (i + 1) behind in cond (judged_kind k) (found i behind) later
+unfoldable pub next_judged : List Event → ℕ → ℕ → Option Found
+next_judged [] i behind = None
+next_judged (Start k ∷ es) i behind = let later = next_judged es (i + 1) behind in cond (judged_kind k) (Some (found i k behind)) later
 next_judged (AddToken ∷ es) i behind = next_judged es (i + 1) (low (behind + 1))
 next_judged (Name n ∷ es) i behind = next_judged es (i + 1) (low (behind + n))
 next_judged (Finish ∷ es) i behind = next_judged es (i + 1) behind
 next_judged (Other ∷ es) i behind = next_judged es (i + 1) behind
 
--- at, byte: the place from which `behind` counts
-unfoldable pub nodes_on : List ℕ → List Token → ℕ → List Event → ℕ → ℕ → ℕ → Out → Out
+-- p: the place from which `behind` counts
+unfoldable pub nodes_on : List ℕ → List Token → ℕ → List Event → ℕ → Seat → Out → Out
 unfolding solid_after node_on
-nodes_on bytes ts first [] behind at byte x = x
-nodes_on bytes ts first (Start k ∷ es) behind at byte x =
-    let p = solid_after behind ts (seat at byte) in
-    let here = nodes_on bytes ts first es 0 p.at p.byte (node_on bytes ts first k es p.at p.byte x) in
-    cond (judged_kind k) here (nodes_on bytes ts first es behind at byte x)
-nodes_on bytes ts first (AddToken ∷ es) behind at byte x = nodes_on bytes ts first es (low (behind + 1)) at byte x
-nodes_on bytes ts first (Name n ∷ es) behind at byte x = nodes_on bytes ts first es (low (behind + n)) at byte x
-nodes_on bytes ts first (Finish ∷ es) behind at byte x = nodes_on bytes ts first es behind at byte x
-nodes_on bytes ts first (Other ∷ es) behind at byte x = nodes_on bytes ts first es behind at byte x
+nodes_on bytes ts first [] behind p x = x
+nodes_on bytes ts first (Start k ∷ es) behind p x =
+    let q = solid_after behind ts p in
+    let here = nodes_on bytes ts first es 0 q (node_on bytes ts first k es q x) in
+    cond (judged_kind k) here (nodes_on bytes ts first es behind p x)
+nodes_on bytes ts first (AddToken ∷ es) behind p x = nodes_on bytes ts first es (low (behind + 1)) p x
+nodes_on bytes ts first (Name n ∷ es) behind p x = nodes_on bytes ts first es (low (behind + n)) p x
+nodes_on bytes ts first (Finish ∷ es) behind p x = nodes_on bytes ts first es behind p x
+nodes_on bytes ts first (Other ∷ es) behind p x = nodes_on bytes ts first es behind p x
 
 -- ---------------------------------------------------------------- all
 
 unfoldable pub strict_on : ℕ → List ℕ → List Token → ℕ → List Event → Out → Out
 unfolding solid_after node_on nodes_on
 strict_on kind bytes ts first es x =
-    let p = solid_after 0 ts (seat 0 0) in
-    cond (judged_kind kind) (node_on bytes ts first kind es p.at p.byte x) (nodes_on bytes ts first es 0 0 0 x)
+    cond (judged_kind kind) (node_on bytes ts first kind es (solid_after 0 ts (seat 0 0)) x) (nodes_on bytes ts first es 0 (seat 0 0) x)
 
 unfoldable pub names_on : ℕ → ℕ → List ℕ → List Token → ℕ → ℕ → List ℕ → List ℕ → Out
 unfolding strict_on shown
 names_on setting kind bytes ts written first events reports =
-    let strict = strict_on kind bytes ts first (shown events) (out (begun written) reports) in
-    cond (eqb setting OLD_SETTING) (out (begun written) reports) strict
+    let begun = out (Ok written) reports in
+    cond (eqb setting OLD_SETTING) begun (strict_on kind bytes ts first (shown events) begun)

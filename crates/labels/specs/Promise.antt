@@ -1,7 +1,7 @@
 -- What is promised of the events of a run: the reports of the Names that the setting reports of the definitions' tree
 -- follow those written, or refusal 7 with the mark of the first that does not fit.
-use Rattle.std.specs.Prelude.{ℕ, suc, ◌+◌, ◌*◌, ◌≤◌, ◌<◌, ◌≡◌, false, List, ◌++◌, length, take}
-use Rattle.definitions.specs.Layout.{REPORT_ROW, NO_REPORT_ROOM}
+use Rattle.std.specs.Prelude.{ℕ, suc, ◌+◌, ◌*◌, ◌≤◌, ◌<◌, ◌≡◌, false, Ok, Err, List, ◌++◌, length, take}
+use Rattle.definitions.specs.Layout.{REPORT_ROW}
 use Rattle.definitions.specs.Token.{tokens_of}
 use Rattle.definitions.specs.Place.{root}
 use Rattle.definitions.specs.Refusal.{no_report_room, accepted, refused}
@@ -10,7 +10,7 @@ use Rattle.definitions.specs.Strict.{NameAt, reported_names, name_numbers, names
 use Rattle.definitions.specs.Grammar.{Entry, root_kind}
 use Rattle.definitions.specs.Call.{run_entry}
 use Rattle.machine.specs.Encode.{encode}
-use Rattle.labels.specs.declared.report.Names.{Names}
+use Rattle.labels.specs.Model.{Names, no_room}
 
 -- so many rows fit after the numbers written, and no more
 pub record Leaves (written room : ℕ) (reports : List ℕ) : Type 0 where
@@ -19,14 +19,13 @@ pub record Leaves (written room : ℕ) (reports : List ℕ) : Type 0 where
 
 -- all fit: the rows of the Names l follow the numbers written
 pub record Follow (l : List NameAt) (first written : ℕ) (reports : List ℕ) (s : Names) (reports' : List ℕ) : Type 0 where
-  pub refusal : s.refusal ≡ 0
-  pub count : s.written ≡ written + length l * REPORT_ROW
-  pub rows : take s.written reports' ≡ take written reports ++ name_numbers first l
+  pub count : s ≡ Ok (written + length l * REPORT_ROW)
+  pub rows : take (written + length l * REPORT_ROW) reports' ≡ take written reports ++ name_numbers first l
 
--- one does not fit
+-- one does not fit; written: how many numbers are written before it
 pub record Stop (mark : ℕ) (s : Names) : Type 0 where
-  pub refusal : s.refusal ≡ NO_REPORT_ROOM
-  pub place : s.place ≡ mark
+  pub written : ℕ
+  pub refused_at : s ≡ Err (no_room written mark)
 
 pub record Named (l : List NameAt) (first written : ℕ) (reports : List ℕ) (s : Names) (reports' : List ℕ) : Type 0 where
   pub fits : (room : ℕ) → Leaves written room reports → names_fit room l ≡ accepted → Follow l first written reports s reports'

@@ -1,73 +1,48 @@
 // All judged nodes of a run, one after the other; no such node lies inside another (proofs/JudgedNodes.antt).
-ghost use Rattle.std.specs.Prelude.{◌≡◌};
+ghost use Rattle.std.specs.Prelude.{◌≡◌, Ok};
 ghost use Rattle.definitions.specs.Token.{tokens_of};
-ghost use Rattle.labels.specs.Model.{out, shown, nodes_on, strict_on, begun, names_on};
+ghost use Rattle.labels.specs.Model.{out, shown, seat, nodes_on, strict_on, names_on};
 ghost use Rattle.labels.specs.Promise.{Promise};
 
+use crate::node::is_judged;
 use crate::report::Names;
-use crate::{node, scan, seat};
-use layout::row::{EVENT_ARGUMENT, EVENT_ROW};
-use layout::{setting, word};
+use crate::run::Run;
+use crate::scan::next_judged;
+use crate::seat::solid_after;
+use layout::setting::OLD;
 use token_rows::token::Seat;
 
-fn all_nodes(
-    s: Names,
-    bytes: &[u8],
-    tokens: &[u32],
-    events: &[u32],
-    reports: &mut [u32],
-    first: u32,
-) -> Names
-    ensures { out result reports.new
-        ≡ nodes_on bytes.now (tokens_of tokens.now) first (shown events.now) 0 0 0
-        (out s reports.old) }
-{
-    let mut q = s;
-    let mut i: usize = 0;
-    let mut at: usize = 0;
-    let mut byte: u32 = 0;
-    while i < events.len() / EVENT_ROW {
-        let found = scan::next_judged(events, i);
-        i = found.event;
-        let some = i < events.len() / EVENT_ROW;
-        if some {
-            let p = seat::solid_after(
-                tokens,
-                Seat { at: at, byte: byte },
-                word::wide(found.behind),
-            );
-            at = p.at;
-            byte = p.byte;
-            let kind = events[i * EVENT_ROW + EVENT_ARGUMENT];
-            i += 1;
-            q = node::judge_node(q, kind, bytes, tokens, events, reports, first, i, at, byte);
-        }
-    }
-    q
-}
+const START: Seat = Seat { at: 0, byte: 0 };
 
-// A root of this kind, and all below it. Where the root's own Names are judged there is no judged node below it.
-fn judge_root(
-    s: Names,
-    kind: u32,
-    bytes: &[u8],
-    tokens: &[u32],
-    events: &[u32],
-    reports: &mut [u32],
-    first: u32,
-) -> Names
-    ensures { out result reports.new
-        ≡ strict_on kind bytes.now (tokens_of tokens.now) first (shown events.now)
-        (out s reports.old) }
-{
-    let judged = node::is_judged(kind);
-    if judged {
-        let p = seat::solid_after(tokens, Seat { at: 0, byte: 0 }, 0);
-        node::judge_node(
-            s, kind, bytes, tokens, events, reports, first, 0, p.at, p.byte,
-        )
-    } else {
-        all_nodes(s, bytes, tokens, events, reports, first)
+impl Run<'_> {
+    fn all_nodes(&self, reports: &mut [u32], written: usize) -> Names
+        ensures { out result reports.new
+            ≡ nodes_on self.now.bytes.now (tokens_of self.now.tokens.now) self.now.first
+            (shown self.now.events.now) 0 (seat 0 0) (out (Ok written) reports.old) }
+    {
+        let mut written = written;
+        let mut from = 0;
+        let mut seat = START;
+        while let Some(found) = next_judged(self.events, from) {
+            seat = solid_after(self.tokens, seat, found.behind as usize);
+            from = found.event + 1;
+            written = self.judge_node(found.kind, from, seat, reports, written)?;
+        }
+        Ok(written)
+    }
+
+    // A root of this kind, and all below it. Where the root's own Names are judged there is no judged node below it.
+    fn judge_root(&self, kind: u32, reports: &mut [u32], written: usize) -> Names
+        ensures { out result reports.new
+            ≡ strict_on kind self.now.bytes.now (tokens_of self.now.tokens.now) self.now.first
+            (shown self.now.events.now) (out (Ok written) reports.old) }
+    {
+        if is_judged(kind) {
+            let seat = solid_after(self.tokens, START, 0);
+            self.judge_node(kind, 0, seat, reports, written)
+        } else {
+            self.all_nodes(reports, written)
+        }
     }
 }
 
@@ -90,15 +65,14 @@ pub fn report_names(
     ensures promise { Promise setting root_kind bytes.now tokens.now written first
         events.now reports.old result reports.new }
 {
-    let begun = Names {
-        written: written,
-        refusal: 0,
-        place: 0,
-    };
-    let old = setting == setting::OLD;
-    if old {
-        begun
-    } else {
-        judge_root(begun, root_kind, bytes, tokens, events, reports, first)
+    if setting == OLD {
+        return Ok(written);
     }
+    Run {
+        bytes,
+        tokens,
+        events,
+        first,
+    }
+    .judge_root(root_kind, reports, written)
 }

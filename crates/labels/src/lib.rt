@@ -8,5 +8,6 @@ pub mod judge;
 pub mod node;
 pub mod report;
 pub mod rule;
+pub mod run;
 pub mod scan;
 pub mod seat;

@@ -5,7 +5,6 @@ use native.Mathlib.Omega.{arith}
 use mathlib.Core.Path.{◌≡◌, refl, sym, ap, ◌∙◌, subst}
 use mathlib.Core.Bool.{Bool, true, false, cond}
 use mathlib.Core.List.{List, [], ◌∷◌, ◌++◌, append-nil}
-use lib.Dec.{eqb}
 use lib.ListN.{length, take, length-append}
 use Rattle.basics.specs.Word.{low}
 use Rattle.definitions.specs.Layout.{TREE_ROW, ERROR_ROW, REPORT_ROW}
@@ -31,7 +30,7 @@ use Rattle.refinement.proofs.Machine.{entry_ends}
 use Rattle.sink.specs.Sunk.{Sunk}
 use Rattle.sink.specs.Promise.{Small, enough, WrittenOut, Placed}
 use Rattle.sink.proofs.Runs.{entry_chained}
-use Rattle.labels.specs.declared.report.Names.{Names}
+use Rattle.labels.specs.Model.{Names}
 use Rattle.labels.specs.Promise.{Leaves, Follow, Stop, Named}
 use Rattle.refinement.specs.Ends.{wiped, swept, refused_at, sunk_answer, last_answer, after_all, SameLengths, Parsed, AfterRun, CallsEnd}
 use Rattle.refinement.proofs.Wiped.{wiped_whole, wiped_written, onto_front, held_front, held_length}
@@ -230,11 +229,14 @@ module _ (setting : ℕ) (e : Entry) (bytes tokens : List ℕ) (b : Buffers) (m 
       abbrev h : StartsWith P b.reports m.reports
       h = g.whole.reports_hold
 
-      reports_in : RowsIn REPORT_ROW (w.written / REPORT_ROW) (P ++ Q) reports'
+      -- how many report numbers there are
+      abbrev n : ℕ
+      n = m.reports.count + length l * REPORT_ROW
+
+      reports_in : RowsIn REPORT_ROW (n / REPORT_ROW) (P ++ Q) reports'
       reports_in =
-          let n : length (P ++ Q) ≡ length P + length Q = length-append P Q in
-          let k : w.written ≡ length (P ++ Q) = omega (arith, f.count, h.count, Q_length) in
-          let whole : w.written / REPORT_ROW * REPORT_ROW ≡ w.written = omega (arith, P_length, Q_length) in
+          let k : n ≡ length (P ++ Q) = omega (arith, length-append P Q, h.count, Q_length) in
+          let whole : n / REPORT_ROW * REPORT_ROW ≡ n = omega (arith, h.count, P_length) in
           record {
             count = omega arith;
             whole = whole ∙ k;
@@ -242,23 +244,23 @@ module _ (setting : ℕ) (e : Entry) (bytes tokens : List ℕ) (b : Buffers) (m 
           }
 
       sunk_ends : (x : Bool) → enough R L b.trees b.errors ≡ x
-          → swept (sunk_answer s w.written m.pool.count) c ≡ cond x (kept z b) (cleared no_tree_room b)
+          → swept (sunk_answer s n m.pool.count) c ≡ cond x (kept z b) (cleared no_tree_room b)
       unfolding sheets
       sunk_ends true k =
           let out : WrittenOut R L b.trees b.errors s trees errors = placed.fits k in
           let q = g.whole.pool_holds in
-          ap (λ (y : Sunk). swept (sunk_answer y w.written m.pool.count) c) out.counts
-          ∙ swept_kept z b c (length R / TREE_ROW) (length L / ERROR_ROW) (w.written / REPORT_ROW) m.pool.count same_lengths
+          ap (λ (y : Sunk). swept (sunk_answer y n m.pool.count) c) out.counts
+          ∙ swept_kept z b c (length R / TREE_ROW) (length L / ERROR_ROW) (n / REPORT_ROW) m.pool.count same_lengths
           (trees_in trees out.rows) (errors_in errors out.lexical) reports_in
           q.count (held_front (pool (reports (pushes o))) b.pool m.pool q)
       sunk_ends false k =
-          ap (λ (y : Sunk). swept (sunk_answer y w.written m.pool.count) c) (placed.lacks k)
+          ap (λ (y : Sunk). swept (sunk_answer y n m.pool.count) c) (placed.lacks k)
           ∙ swept_refused (number_of no_tree_room) (place_of no_tree_room) no_tree_room b c refl refl same_lengths
 
       delivered_ends : swept (last_answer s w m) c ≡ delivered z b
       unfolding delivered sheets
       delivered_ends =
-          ap (λ (n : ℕ). swept (cond (eqb n 0) (sunk_answer s w.written m.pool.count) (refused_at n w.place)) c) f.refusal
+          ap (λ (x : Names). swept (last_answer s x m) c) f.count
           ∙ sunk_ends (enough R L b.trees b.errors) refl
 
     by_names : (v : Verdict) → names_fit g.left.reports l ≡ v → swept (last_answer s w m) c ≡ unless_refused v z b
@@ -267,8 +269,8 @@ module _ (setting : ℕ) (e : Entry) (bytes tokens : List ℕ) (b : Buffers) (m 
     by_names (refused r) v =
         let q : (k : ℕ) × (r ≡ no_report_room k) = name_refused g.left.reports l r v in
         let t : Stop q.0 w = named.lacks g.left.reports q.0 (rows_left g) (v ∙ ap refused q.1) in
-        ap (λ (n : ℕ). swept (cond (eqb n 0) (sunk_answer s w.written m.pool.count) (refused_at n w.place)) c) t.refusal
-        ∙ (unfold number_of place_of in swept_refused (number_of (no_report_room q.0)) w.place (no_report_room q.0) b c refl t.place same_lengths)
+        ap (λ (x : Names). swept (last_answer s x m) c) t.refused_at
+        ∙ (unfold number_of place_of in swept_refused (number_of (no_report_room q.0)) q.0 (no_report_room q.0) b c refl refl same_lengths)
         ∙ ap (λ (y : Refusal). cleared y b) (sym q.1)
 
     all_ended : swept (last_answer s w m) c ≡ parse e setting bytes ts b

@@ -1,9 +1,9 @@
 -- The last step before the exported contract: the machine's end, the sink's promise and that of the Names' reports,
 -- joined. What they leave in the lent buffers, cleared after what is written, is the result of `parse` in
 -- `definitions`. A device of the proofs, and not a part of any exported promise.
-use Rattle.std.specs.Prelude.{ℕ, ◌-◌, ◌*◌, ◌/◌, ◌≤◌, ◌≡◌, cond, List, ◌++◌, Ok, Err, eqb, length, take, replicate}
+use Rattle.std.specs.Prelude.{ℕ, ◌-◌, ◌*◌, ◌/◌, ◌≤◌, ◌≡◌, List, ◌++◌, Ok, Err, length, take, replicate}
 use Rattle.basics.specs.Word.{low}
-use Rattle.definitions.specs.Layout.{TREE_ROW, ERROR_ROW, REPORT_ROW, MOST_OPEN_CALLS}
+use Rattle.definitions.specs.Layout.{TREE_ROW, ERROR_ROW, REPORT_ROW, MOST_OPEN_CALLS, NO_REPORT_ROOM}
 use Rattle.definitions.specs.Token.{tokens_of}
 use Rattle.definitions.specs.Refusal.{no_tree_room, number_of, place_of, accepted}
 use Rattle.definitions.specs.RowCauses.{check_input}
@@ -14,7 +14,7 @@ use Rattle.machine.specs.Walk.{unlabelled, walk_prog}
 use Rattle.machine.specs.Outcome.{fresh}
 use Rattle.sink.specs.Sunk.{Sunk}
 use Rattle.sink.specs.Promise as Sink
-use Rattle.labels.specs.declared.report.Names.{Names}
+use Rattle.labels.specs.Model.{Names}
 use Rattle.labels.specs.Promise as Labels
 
 -- zero from the number n on
@@ -48,7 +48,8 @@ sunk_answer (Err e) r p = refused_at (number_of no_tree_room) (place_of no_tree_
 
 -- the answer after the parser, which refused nothing, the sink, and the Names' reports: 7 comes before 8
 abbrev pub last_answer : Sunk → Names → Machine → Answer
-last_answer s w m = cond (eqb w.refusal 0) (sunk_answer s w.written m.pool.count) (refused_at w.refusal w.place)
+last_answer s (Ok written) m = sunk_answer s written m.pool.count
+last_answer s (Err e) m = refused_at NO_REPORT_ROOM e.mark
 
 -- the buffers after all of them; events and pool are as the parser left them
 abbrev pub after_all : List ℕ → List ℕ → List ℕ → Machine → Buffers

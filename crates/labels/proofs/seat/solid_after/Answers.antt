@@ -5,7 +5,4 @@ use Rattle.labels.proofs.seat.solid_after.Goals as goal
 
 pub returns : goal.returns
 unfolding solid_after
-returns c =
-    let pass-solid = c.pass_solid-p in
-    let skip-trivia = c.skip_trivia in
-    rw (← pass-solid.ensures) (solid_seat _ _ _ skip-trivia.ensures.m_value)
+returns c = rw (← c.pass_solid-seat.ensures) (solid_seat _ _ _ c.skip_trivia.ensures.m_value)
