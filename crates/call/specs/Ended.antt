@@ -23,6 +23,10 @@ refused_with n p = record { number = n; place = p; tree_count = 0; error_count =
 abbrev pub accepted_with : ℕ → ℕ → ℕ → ℕ → Answer
 accepted_with t e r n = record { number = 0; place = 0; tree_count = t; error_count = e; report_count = r; expectation_count = n }
 
+abbrev pub answer_from : Result Answer Refusal → Answer
+answer_from (Ok a) = a
+answer_from (Err r) = refused_with r.number r.place
+
 -- by what the sink says, with so many numbers of reports and so many expectations
 abbrev pub sunk_with : Sunk → ℕ → ℕ → Answer
 sunk_with (Ok w) r n = accepted_with w.rows w.errors (r / REPORT_ROW) n

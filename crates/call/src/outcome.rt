@@ -1,12 +1,14 @@
 // After the parse: sink, the reports of the strict setting, answer, and what every lent buffer holds afterwards.
 ghost use Rattle.std.specs.Prelude.{◌≡◌, ◌≤◌, length, IfOk};
+ghost use Rattle.definitions.specs.Layout.{NO_REPORT_ROOM, NO_TREE_ROOM};
 ghost use Rattle.call.specs.Result.{held, SameSlices, result_of};
-ghost use Rattle.call.specs.Ended.{CountsFit, sunk_with, AnswerOfRun, AnswerOfParse, Ended};
+ghost use Rattle.call.specs.Ended.{answer_from, AnswerOfParse, Ended};
 
 use crate::buffer::clear;
 use crate::lent::{Buffers, Input};
 use crate::{Answer, accepted, refused};
 use labels::judge::report_names;
+use labels::report::NoReportRoom;
 use layout::refusal::{NO_REPORT_ROOM, NO_TREE_ROOM};
 use layout::row::{ERROR_ROW, REPORT_ROW, TREE_ROW};
 use layout::word::low32;
@@ -20,51 +22,53 @@ pub struct Filled {
     pub pool: usize,
 }
 
-// Why a run stopped: the number of a cause of 5 to 7, and its place.
+// Why a call is refused after its checks: the number of a cause of 5 to 8, and its place.
 #[derive(Clone, Copy)]
 pub struct Refusal {
     pub number: u32,
     pub place: usize,
 }
 
-// By what the sink says, with so many numbers of reports and so many expectations.
-fn answer_of_sink(
-    sunk: Result<Written, NoRoom>,
-    reports_written: usize,
-    pool_written: usize,
-) -> Answer
-    ensures value { result ≡ sunk_with sunk reports_written pool_written }
-    ensures counts_fit { CountsFit result }
-{
-    match sunk {
-        Ok(Written { rows, errors }) => accepted(
-            rows,
-            errors,
-            reports_written / REPORT_ROW,
-            pool_written,
-        ),
-        Err(NoRoom) => refused(NO_TREE_ROOM, 0),
+impl From<NoReportRoom> for Refusal {
+    ghost from_gives = { λ no_room r. r ≡ record { number = NO_REPORT_ROOM; place = no_room.mark } };
+
+    fn from(no_room: NoReportRoom) -> Refusal {
+        Refusal {
+            number: NO_REPORT_ROOM,
+            place: no_room.mark,
+        }
+    }
+}
+
+impl From<NoRoom> for Refusal {
+    ghost from_gives = { λ _ r. r ≡ record { number = NO_TREE_ROOM; place = 0 } };
+
+    fn from(_: NoRoom) -> Refusal {
+        Refusal {
+            number: NO_TREE_ROOM,
+            place: 0,
+        }
     }
 }
 
 // The sink reads a run's events, and so does what reports the Names of the strict setting. A report of a Name that does
-// not fit comes before a tree that does not.
+// not fit comes before a tree that does not. The buffers are not cleared yet.
 fn answer_of_run(
     root_kind: u32,
-    filled: Filled,
+    run: Result<Filled, Refusal>,
     input: Input<'_>,
     buffers: &mut Buffers<'_>,
-) -> Answer
-    requires { filled.events ≤ length buffers.old.events.now }
+) -> Result<Answer, Refusal>
+    requires { IfOk run (λ w. w.events ≤ length buffers.old.events.now) }
     ensures same { SameSlices buffers.old buffers.new }
-    ensures events { buffers.new.events.now ≡ buffers.old.events.now }
-    ensures pool { buffers.new.pool.now ≡ buffers.old.pool.now }
-    ensures answer { AnswerOfRun root_kind filled input.entry (held buffers.old) result (held buffers.new) }
+    ensures answer { AnswerOfParse root_kind run input.entry (held buffers.old) (answer_from result)
+        (held buffers.new) }
 {
+    let filled = run?;
     let tokens = input.tokens;
     let events = &mut buffers.events[..filled.events];
     let sunk = sink::finish(root_kind, tokens, events, buffers.trees, buffers.errors);
-    match report_names(
+    let reports_written = report_names(
         input.setting,
         root_kind,
         input.bytes,
@@ -73,27 +77,9 @@ fn answer_of_run(
         buffers.reports,
         filled.reports,
         low32(filled.pool),
-    ) {
-        Ok(written) => answer_of_sink(sunk, written, filled.pool),
-        Err(no_room) => refused(NO_REPORT_ROOM, no_room.mark),
-    }
-}
-
-// A run that was refused keeps its number and place. The buffers are not cleared yet.
-fn answer_of_parse(
-    root_kind: u32,
-    run: Result<Filled, Refusal>,
-    input: Input<'_>,
-    buffers: &mut Buffers<'_>,
-) -> Answer
-    requires { IfOk run (λ w. w.events ≤ length buffers.old.events.now) }
-    ensures same { SameSlices buffers.old buffers.new }
-    ensures answer { AnswerOfParse root_kind run input.entry (held buffers.old) result (held buffers.new) }
-{
-    match run {
-        Ok(filled) => answer_of_run(root_kind, filled, input, buffers),
-        Err(Refusal { number, place }) => refused(number, place),
-    }
+    )?;
+    let Written { rows, errors } = sunk?;
+    Ok(accepted(rows, errors, reports_written / REPORT_ROW, filled.pool))
 }
 
 // Events are cleared whole, every other buffer after what is written to it. A refused call's counts are 0.
@@ -107,7 +93,8 @@ pub fn outcome(
     ensures same { SameSlices buffers.old buffers.new }
     ensures ended { Ended root_kind run input.entry (held buffers.old) (result_of result (held buffers.new)) }
 {
-    let a = answer_of_parse(root_kind, run, input, buffers);
+    let ended = answer_of_run(root_kind, run, input, buffers);
+    let a = ended.unwrap_or_else(|r| refused(r.number, r.place));
     clear(buffers.events, 0);
     clear(buffers.trees, a.tree_count * TREE_ROW);
     clear(buffers.errors, a.error_count * ERROR_ROW);
