@@ -92,7 +92,6 @@ pub record Found (trees : List ℕ) (i index left : ℕ) (s : Spot) : Type 0 whe
   pub number : ℕ
   pub at : s.index ≡ TREE_ROW * number
   pub later : index ≤ s.index
-  pub numbers_there : s.index + TREE_ROW ≤ length trees
   pub few : number < length (tree_rows_of trees)
   pub here : (get_or trees s.index 0 ≡ LEAF) → holding i left (rows_from trees index) ≡ number ∷ []
   pub deeper : (get_or trees s.index 0 ≡ LEAF → ⊥)
@@ -131,7 +130,6 @@ found_row trees i index left e g =
       number = i + n;
       at = omega (arith, a.at, e);
       later = omega (arith, a.at);
-      numbers_there = t;
       few = (let z = rows_number trees in omega (arith, z, t, a.at, e));
       here = λ x. a.same ∙ holding_leaf a.row a.after (i + n) s.left a.has (k ∙ x);
       deeper = λ x. (
