@@ -14,7 +14,7 @@ use Rattle.rows.specs.ResultRows.{Row, class, width, over_leaves, raw_bytes}
 use Rattle.rows.specs.OnePass.{tree_rows_of, own, holding, Classes}
 use Rattle.rows.proofs.Numbers.{row_from, rows_cons, rows_some, rows_number, rows_drop}
 use Rattle.caret.specs.declared.chain.Spot.{Spot}
-use Rattle.caret.specs.Walk.{laid, seek_from}
+use Rattle.caret.specs.Walk.{laid, Lists, seek_from}
 use Rattle.caret.proofs.Turns.{rows_from, Going, own_within}
 
 -- ---------------------------------------------------------------- the list
@@ -206,10 +206,10 @@ module _ {byte : ℕ} {trees list₀ list : List ℕ} {index left count : ℕ} (
     at_hand = subst (Found trees w.row index left) (sym e) sought
 
     pub ends_at : (list' : List ℕ) → list' ≡ set list count (s.index / TREE_ROW) → get_or trees s.index 0 ≡ LEAF
-        → (count + 1 ≡ length (holding 0 byte (tree_rows_of trees))) × (list' ≡ laid (holding 0 byte (tree_rows_of trees)) list₀)
+        → Lists (holding 0 byte (tree_rows_of trees)) (count + 1) list₀ list'
     ends_at list' p h =
         let z = walk_ends (ap (λ (x : Spot). get_or trees x.index 0) (sym e) ∙ h) in
-        (z.0, p ∙ ap (λ (x : Spot). set list count (x.index / TREE_ROW)) e ∙ z.1)
+        record { many = z.0; listed = p ∙ ap (λ (x : Spot). set list count (x.index / TREE_ROW)) e ∙ z.1 }
 
     pub on_from : (list' : List ℕ) → list' ≡ set list count (s.index / TREE_ROW) → (get_or trees s.index 0 ≡ LEAF → ⊥)
         → Walked byte trees list₀ list' (s.index + TREE_ROW) s.left (count + 1)
