@@ -14,7 +14,7 @@ use Rattle.rows.specs.ResultRows.{Row, class, width, over_leaves, raw_bytes}
 use Rattle.rows.specs.OnePass.{tree_rows_of, own, holding, Classes}
 use Rattle.rows.proofs.Numbers.{row_from, rows_cons, rows_some, rows_number, rows_drop}
 use Rattle.caret.specs.declared.chain.Spot.{Spot}
-use Rattle.caret.specs.Walk.{laid, seek_from}
+use Rattle.caret.specs.Walk.{laid, Lists, seek_from}
 use Rattle.caret.proofs.Turns.{rows_from, Going, own_within}
 
 -- ---------------------------------------------------------------- the list
@@ -92,7 +92,6 @@ pub record Found (trees : List ℕ) (i index left : ℕ) (s : Spot) : Type 0 whe
   pub number : ℕ
   pub at : s.index ≡ TREE_ROW * number
   pub later : index ≤ s.index
-  pub numbers_there : s.index + TREE_ROW ≤ length trees
   pub few : number < length (tree_rows_of trees)
   pub here : (get_or trees s.index 0 ≡ LEAF) → holding i left (rows_from trees index) ≡ number ∷ []
   pub deeper : (get_or trees s.index 0 ≡ LEAF → ⊥)
@@ -131,7 +130,6 @@ found_row trees i index left e g =
       number = i + n;
       at = omega (arith, a.at, e);
       later = omega (arith, a.at);
-      numbers_there = t;
       few = (let z = rows_number trees in omega (arith, z, t, a.at, e));
       here = λ x. a.same ∙ holding_leaf a.row a.after (i + n) s.left a.has (k ∙ x);
       deeper = λ x. (
@@ -208,10 +206,10 @@ module _ {byte : ℕ} {trees list₀ list : List ℕ} {index left count : ℕ} (
     at_hand = subst (Found trees w.row index left) (sym e) sought
 
     pub ends_at : (list' : List ℕ) → list' ≡ set list count (s.index / TREE_ROW) → get_or trees s.index 0 ≡ LEAF
-        → (count + 1 ≡ length (holding 0 byte (tree_rows_of trees))) × (list' ≡ laid (holding 0 byte (tree_rows_of trees)) list₀)
+        → Lists (holding 0 byte (tree_rows_of trees)) (count + 1) list₀ list'
     ends_at list' p h =
         let z = walk_ends (ap (λ (x : Spot). get_or trees x.index 0) (sym e) ∙ h) in
-        (z.0, p ∙ ap (λ (x : Spot). set list count (x.index / TREE_ROW)) e ∙ z.1)
+        record { many = z.0; listed = p ∙ ap (λ (x : Spot). set list count (x.index / TREE_ROW)) e ∙ z.1 }
 
     pub on_from : (list' : List ℕ) → list' ≡ set list count (s.index / TREE_ROW) → (get_or trees s.index 0 ≡ LEAF → ⊥)
         → Walked byte trees list₀ list' (s.index + TREE_ROW) s.left (count + 1)

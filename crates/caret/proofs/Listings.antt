@@ -13,7 +13,7 @@ use Rattle.definitions.specs.Caret.{range, share}
 use Rattle.rows.specs.ResultRows.{Row, width}
 use Rattle.rows.specs.OnePass.{tree_rows_of, own, starting, found, Classes, AddsUp}
 use Rattle.rows.proofs.Numbers.{row_from, rows_cons, rows_number, rows_drop, own_product}
-use Rattle.caret.specs.Walk.{laid, passed, Starts}
+use Rattle.caret.specs.Walk.{laid, Lists, passed, Starts}
 use Rattle.caret.proofs.Turns.{rows_from, own_within}
 use Rattle.caret.proofs.Chains.{laid_put}
 
@@ -103,14 +103,14 @@ no_rows (a ∷ b ∷ c ∷ d ∷ []) h = refl
 no_rows (a ∷ b ∷ c ∷ d ∷ e ∷ l) h = absurd (omega (arith, h))
 
 all_listed : {fr to : ℕ} {goal trees list₀ list : List ℕ} {index start count : ℕ} (w : Listing fr to goal trees list₀ list index start count)
-    → starting fr to w.row 0 start (rows_from trees index) ≡ [] → (count ≡ length goal) × (list ≡ laid goal list₀)
+    → starting fr to w.row 0 start (rows_from trees index) ≡ [] → Lists goal count list₀ list
 all_listed {list₀ = list₀} w none =
     let all = sym (append-nil w.done) ∙ ap (w.done ++◌) (sym none) ∙ w.whole in
-    (w.counted ∙ ap length all, w.on_list ∙ ap (λ (l : List ℕ). laid l list₀) all)
+    record { many = w.counted ∙ ap length all; listed = w.on_list ∙ ap (λ (l : List ℕ). laid l list₀) all }
 
 -- no row is left
 pub listing_ends : {fr to : ℕ} {goal trees list₀ list : List ℕ} {index start count : ℕ} → Listing fr to goal trees list₀ list index start count → length trees < index + TREE_ROW
-    → (count ≡ length goal) × (list ≡ laid goal list₀)
+    → Lists goal count list₀ list
 unfolding starting
 listing_ends {fr} {to} {goal} {trees} {list₀} {list} {index} {start} {count} w h =
     all_listed w (ap (starting fr to w.row 0 start) (no_rows (drop index trees) (let z = length-drop index trees in omega (arith, z, h))))
@@ -132,7 +132,7 @@ starting_over fr to i zero start (r ∷ l) h =
 starting_over fr to i (suc n) start (r ∷ l) h = starting_over fr to (suc i) (suc n - own r) start l h
 
 pub listing_over : {fr to : ℕ} {goal trees list₀ list : List ℕ} {index start count : ℕ} → Listing fr to goal trees list₀ list index start count → to ≤ start
-    → (count ≡ length goal) × (list ≡ laid goal list₀)
+    → Lists goal count list₀ list
 listing_over {fr} {to} {goal} {trees} {list₀} {list} {index} {start} {count} w h = all_listed w (starting_over fr to w.row 0 start (rows_from trees index) h)
 
 -- ---------------------------------------------------------------- a turn

@@ -1,15 +1,15 @@
 -- Which rows an offset asks for: inside the file, past it, at the end of an empty file, at the end of another.
 use Prim.Native.Nat.{ℕ, ◌-◌, ◌<◌, ◌≤◌}
 use native.Mathlib.Omega.{arith}
-use mathlib.Core.Path.{◌≡◌, refl, ap, sym, ◌∙◌}
+use mathlib.Core.Path.{◌≡◌, refl, sym, ◌∙◌, subst}
 use mathlib.Core.List.{List, [], ◌∷◌}
-use lib.ListN.{length, set}
+use lib.ListN.{set}
 use borrow.Author.Tests.{lt-ltb, le-ltb, eq-eqb, ne_eqb}
 use Rattle.std.proofs.Common.{◌≢◌}
 use Rattle.definitions.specs.Caret.{caret}
 use Rattle.rows.specs.ResultRows.{Row}
 use Rattle.rows.specs.OnePass.{holding, found}
-use Rattle.caret.specs.Walk.{laid}
+use Rattle.caret.specs.Walk.{laid, Lists}
 
 module _ (offset size : ℕ) (l : List Row) where
   pub at_inside : offset < size → found (caret offset) size l ≡ holding 0 offset l
@@ -29,14 +29,17 @@ module _ (offset size : ℕ) (l : List Row) where
   at_end e n = let h : size ≤ size = omega arith in rw (e, le-ltb size size h, eq-eqb size size refl, ne_eqb size 0 n)
 
 -- what is found, on the list
-pub as_found : {x y : List ℕ} (n : ℕ) (list list' : List ℕ) → x ≡ y → (n ≡ length y) × (list' ≡ laid y list) → (n ≡ length x) × (list' ≡ laid x list)
-as_found n list list' e h = (h.0 ∙ ap length (sym e), h.1 ∙ ap (λ (l : List ℕ). laid l list) (sym e))
+pub as_listed : {x y : List ℕ} {n : ℕ} {before after : List ℕ} → x ≡ y → Lists y n before after → Lists x n before after
+as_listed {n = n} {before = before} {after = after} e h = subst (λ (l : List ℕ). Lists l n before after) (sym e) h
 
-pub laid_none : (list : List ℕ) → list ≡ laid [] list
+pub lists_none : (list : List ℕ) → Lists [] 0 list list
 unfolding laid
-laid_none list = refl
+lists_none list = record { many = refl; listed = refl }
 
-pub laid_one : (list : List ℕ) (n : ℕ) → set list 0 n ≡ laid (n ∷ []) list
+laid_one : (list : List ℕ) (n : ℕ) → set list 0 n ≡ laid (n ∷ []) list
 unfolding laid
 laid_one [] n = refl
 laid_one (x ∷ list) n = refl
+
+pub lists_one : (list list' : List ℕ) (n : ℕ) → list' ≡ set list 0 n → Lists (n ∷ []) 1 list list'
+lists_one list list' n e = record { many = refl; listed = e ∙ laid_one list n }

@@ -11,6 +11,11 @@ laid [] b = b
 laid (x ∷ l) [] = []
 laid (x ∷ l) (y ∷ b) = x ∷ laid l b
 
+-- what a walk answers, and what it leaves of a list: the numbers of these rows are laid over its front
+pub record Lists (rows : List ℕ) (count : ℕ) (before after : List ℕ) : Type 0 where
+  pub many : count ≡ length rows
+  pub listed : after ≡ laid rows before
+
 -- the first row that has the byte `left` bytes after the start of the first; the index of the first's first number is
 -- given
 unfoldable pub seek_from : ℕ → ℕ → List Row → Spot

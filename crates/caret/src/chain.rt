@@ -5,7 +5,7 @@ ghost use Rattle.definitions.specs.Layout.{TREE_ROW, TWO_TO_32};
 ghost use Rattle.definitions.specs.Caret.{caret};
 ghost use Rattle.rows.specs.ResultRows.{raw_bytes};
 ghost use Rattle.rows.specs.OnePass.{tree_rows_of, holding, found, Classes, Sound};
-ghost use Rattle.caret.specs.Walk.{laid, seek_from};
+ghost use Rattle.caret.specs.Walk.{Lists, seek_from};
 
 use crate::list::put;
 use layout::row::{LEAF, TREE_ROW, TREE_WIDTH};
@@ -55,9 +55,7 @@ pub fn seek(trees: &[u32], from: Spot) -> Spot
 fn chain(byte: u32, trees: &[u32], list: &mut [u32]) -> usize
     requires { (byte < raw_bytes (tree_rows_of trees.now)) × Classes (tree_rows_of trees.now)
         × (length (tree_rows_of trees.now) < TWO_TO_32) }
-    ensures value { result ≡ length (holding 0 byte (tree_rows_of trees.now)) }
-    ensures list_after { list.new
-        ≡ laid (holding 0 byte (tree_rows_of trees.now)) list.old }
+    ensures { Lists (holding 0 byte (tree_rows_of trees.now)) result list.old list.new }
 {
     let mut spot = Spot {
         index: 0,
@@ -78,9 +76,7 @@ fn chain(byte: u32, trees: &[u32], list: &mut [u32]) -> usize
 // Those of an offset, in a file of so many bytes.
 pub fn rows_at(offset: u64, size: usize, trees: &[u32], list: &mut [u32]) -> usize
     requires { Sound size (tree_rows_of trees.now) }
-    ensures value { result ≡ length (found (caret offset) size (tree_rows_of trees.now)) }
-    ensures list_after { list.new
-        ≡ laid (found (caret offset) size (tree_rows_of trees.now)) list.old }
+    ensures { Lists (found (caret offset) size (tree_rows_of trees.now)) result list.old list.new }
 {
     let length = size as u64;
     if offset < length {

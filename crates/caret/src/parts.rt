@@ -4,7 +4,7 @@ ghost use Rattle.std.specs.Prelude.{◌≡◌, ℕ, ◌+◌, ◌*◌, ◌/◌, �
 ghost use Rattle.definitions.specs.Layout.{TREE_ROW, TWO_TO_32};
 ghost use Rattle.definitions.specs.Caret.{range, share};
 ghost use Rattle.rows.specs.OnePass.{tree_rows_of, starting, found, Classes, AddsUp, Sound};
-ghost use Rattle.caret.specs.Walk.{laid, passed, Starts};
+ghost use Rattle.caret.specs.Walk.{Lists, passed, Starts};
 
 use crate::chain::{Spot, seek};
 use crate::list::put;
@@ -41,11 +41,8 @@ fn sharing_from(
     list: &mut [u32],
 ) -> usize
     requires { Starts trees.now first first_byte × (length (tree_rows_of trees.now) < TWO_TO_32) }
-    ensures value { result
-        ≡ length (starting from to (first / TREE_ROW) 0 first_byte (tree_rows_of (drop first trees.now))) }
-    ensures list_after { list.new
-        ≡ laid (starting from to (first / TREE_ROW) 0 first_byte (tree_rows_of (drop first trees.now)))
-        list.old }
+    ensures { Lists (starting from to (first / TREE_ROW) 0 first_byte (tree_rows_of (drop first trees.now)))
+        result list.old list.new }
 {
     let mut index = first;
     let mut start = first_byte;
@@ -66,9 +63,7 @@ fn sharing_from(
 // In a file of so many bytes. The first part is sought: the first row after the root that has the range's first byte.
 pub fn sharing(from: u64, to: u64, size: usize, trees: &[u32], list: &mut [u32]) -> usize
     requires { Sound size (tree_rows_of trees.now) }
-    ensures value { result ≡ length (found (range from to) size (tree_rows_of trees.now)) }
-    ensures list_after { list.new
-        ≡ laid (found (range from to) size (tree_rows_of trees.now)) list.old }
+    ensures { Lists (found (range from to) size (tree_rows_of trees.now)) result list.old list.new }
 {
     if from < size as u64 {
         let top = Spot {

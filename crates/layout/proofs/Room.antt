@@ -1,11 +1,12 @@
 -- The tests for room of specs/Rows in other words, and a copy into the middle of a buffer.
-use Rattle.std.proofs.Common.{◌≡◌, ℕ, zero, suc, ◌+◌, ◌-◌, ◌*◌, ◌/◌, ◌<◌, ◌≤◌, true, List, length, take, drop, leb, ltb, get_or, arith, ap, sym, ◌∙◌, append_assoc}
+use Rattle.std.proofs.Common.{◌≡◌, ℕ, zero, suc, ◌+◌, ◌-◌, ◌*◌, ◌/◌, ◌<◌, ◌≤◌, true, false, List, length, take, drop, leb, ltb, get_or, arith, ap, sym, ◌∙◌, append_assoc}
 use Rattle.std.proofs.Math.Nat.{le-div_iff_mul-le}
 use Rattle.std.proofs.lemmas.Bool.Decides.{nat_tests}
 use Rattle.std.proofs.lemmas.List.{drop-drop, get_or-take, get_or-drop}
 use Rattle.std.specs.Simd.{first_chunks}
 use Rattle.std.proofs.lemmas.List.Edits.{sets-eq}
 use borrow.Rule.Slice.PartMut.{put_mid}
+use borrow.Author.Tests.{leb-true, lt-ltb, le-ltb}
 use Rattle.layout.specs.Rows.{fits, put_row, IsRow}
 
 -- without a difference
@@ -29,6 +30,19 @@ copied n index row new buffer h k e q =
     let inside : index + length row ≤ length buffer = omega arith in
     rw (fit, q, same, sets-eq row buffer index inside, drop-drop (length row) index buffer) (sym (append_assoc (take index buffer) row _))
 
+-- a row written by its number: it is one of the whole rows, or does not fit
+pub row_written : (n row : ℕ) (numbers new buffer : List ℕ) → row < length buffer / n → length numbers ≡ n → new ≡ numbers
+    → put_mid (row * n) (row * n + n - row * n) buffer new ≡ put_row n (row * n) numbers buffer
+row_written n row numbers new buffer h l e =
+    let inside : row * n + n ≤ length buffer = leb-true _ _ (row_inside n (length buffer) row (omega arith) ∙ lt-ltb row (length buffer / n) h) in
+    copied n (row * n) numbers new buffer (omega arith) (omega arith) l e
+
+pub row_left_out : (n row : ℕ) (numbers buffer : List ℕ) → 0 < n → length buffer / n ≤ row → buffer ≡ put_row n (row * n) numbers buffer
+unfolding put_row
+row_left_out n row numbers buffer p h =
+    let out : fits (length buffer) (row * n) n ≡ false = fits_sum (length buffer) (row * n) n ∙ row_inside n (length buffer) row p ∙ le-ltb row (length buffer / n) h in
+    rw out
+
 -- row i among the rows as arrays
 get_or-first_chunks : (n k : ℕ) (xs : List ℕ) (i : ℕ) (d : List ℕ) → i < k → get_or (first_chunks n k xs) i d ≡ take n (drop (i * n) xs)
 get_or-first_chunks n zero xs i d h = absurd (omega arith)
@@ -48,3 +62,6 @@ chunk_row n buffer i rows r e h q =
 
 -- what `put_row` and `field` ask
 pub ruleset room = (nat_tests, copied)
+
+-- what `set_row` asks
+pub ruleset set_room = (row_written, row_left_out)

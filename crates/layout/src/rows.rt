@@ -29,6 +29,18 @@ pub fn put_row<const N: usize>(buffer: &mut [u32], index: usize, row: [u32; N])
     }
 }
 
+// A row by its number. Nothing is written past the last row.
+#[tactic(auto, using(crate::proofs::Room::set_room), unfolding(crate::specs::Rows::put_row))]
+pub fn set_row<const N: usize>(buffer: &mut [u32], row: usize, numbers: [u32; N])
+    requires { 0 < N }
+    ensures { buffer.new ≡ put_row N (row * N) numbers.entry buffer.old }
+{
+    if row < buffer.len() / N {
+        let start = row * N;
+        buffer[start..start + N].copy_from_slice(&numbers);
+    }
+}
+
 // A number of a row; 0 past the last row.
 #[tactic(auto, using(crate::proofs::Room::room), unfolding(crate::specs::Rows::field))]
 pub fn field<const N: usize>(buffer: &[u32], row: usize, column: usize) -> u32

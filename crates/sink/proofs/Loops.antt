@@ -51,6 +51,9 @@ trivia_done tokens x h = go (length tokens / TOKEN_ROW - (sink_of x).cursor)
     go zero = refl
     go (suc n) = rw (h, triviaN)
 
+-- what a turn over trivia asks
+pub ruleset trivia = (trivia_lt, trivia_more, trivia_done)
+
 -- ---------------------------------------------------------------- events
 
 pub events_more : (n : ℕ) (tokens events : List ℕ) (i : ℕ) (x : On) → i < n → eventsN (n - (i + 1)) tokens events (i + 1) (event_on tokens events i x) ≡ eventsN (n - i) tokens events i x

@@ -163,7 +163,3 @@ module _ (k : ℕ) (o : Skeleton) (tokens : List ℕ) (c : Chained o) (small : S
 -- THE MACHINE KEEPS THE PROMISE
 pub kept_promise : (k : ℕ) (tokens events t e : List ℕ) (a : Sunk) (u f : List ℕ) → finished a u f ≡ finish_all k tokens events t e → Promise k tokens events t e a u f
 kept_promise k tokens events t e a u f g o h c small = placed k o tokens c small t e a u f (g ∙ ap (λ x. finish_all k tokens x t e) h)
-
-pub with_promise : (k : ℕ) (tokens events t e : List ℕ) (a : Sunk) (u f : List ℕ) → finished a u f ≡ finish_all k tokens events t e
-    → (finished a u f ≡ finish_all k tokens events t e) × Promise k tokens events t e a u f
-with_promise k tokens events t e a u f g = (g, kept_promise k tokens events t e a u f g)

@@ -83,7 +83,7 @@ impl Sink {
         }
     }
 
-    #[tactic(auto, using(crate::proofs::Loops::trivia_lt, crate::proofs::Loops::trivia_more, crate::proofs::Loops::trivia_done))]
+    #[tactic(auto, using(crate::proofs::Loops::trivia))]
     fn eat_trivia(&mut self, tokens: &[u32], trees: &mut [u32])
         ensures { on self.new trees.new
             ≡ trivia_on tokens.now (on self.old trees.old) }
@@ -191,7 +191,7 @@ fn all_events(kind: u32, tokens: &[u32], events: &[u32], trees: &mut [u32]) -> S
 
 // `Sink::finish`. The first clause says what it answers and what the buffers then hold, whatever the events are; the
 // second, that for events that encode a skeleton it is what the definitions say.
-#[tactic(auto, using(crate::proofs::Whole::kept_promise), unfolding(crate::specs::Model::finish_all, crate::specs::Model::finished_in))]
+#[tactic(auto, unfolding(crate::specs::Model::finish_all, crate::specs::Model::finished_in))]
 pub fn finish(
     root_kind: u32,
     tokens: &[u32],

@@ -1,18 +1,10 @@
 -- The turns of the loops along a chain of starts.
-use Rattle.std.proofs.Common.{◌≡◌, ℕ, zero, suc, ◌+◌, ◌-◌, ◌*◌, ◌/◌, ◌<◌, List, [], length, Option, Some, None, MatchOption, unwrap_or, refl, arith}
+use Rattle.std.proofs.Common.{◌≡◌, ℕ, zero, suc, ◌+◌, ◌/◌, ◌<◌, List, [], length, Option, Some, None, MatchOption, unwrap_or, refl, arith}
 use borrow.Author.Tests.{lt-ltb}
 use Rattle.basics.specs.Word.{low}
-use Rattle.definitions.specs.Layout.{NODE, TREE_ROW, EVENT_ROW, EVENT_ARGUMENT}
+use Rattle.definitions.specs.Layout.{NODE, EVENT_ROW, EVENT_ARGUMENT}
 use Rattle.definitions.specs.Parent.{tree_row}
-use borrow.Rule.Slice.PartMut.{put_mid}
-use Rattle.layout.proofs.Room.{copied}
 use Rattle.sink_rows.specs.Rows.{put, field, link, links, linksN, open_rows}
-
--- ---------------------------------------------------------------- a row
-
-pub row_written : (row : ℕ) (numbers new trees : List ℕ) → row < length trees / TREE_ROW → length numbers ≡ TREE_ROW → new ≡ numbers
-    → put_mid (row * TREE_ROW) (row * TREE_ROW + TREE_ROW - row * TREE_ROW) trees new ≡ put row numbers trees
-row_written row numbers new trees h l e = copied TREE_ROW (row * TREE_ROW) numbers new trees (omega arith) (omega arith) l e
 
 -- ---------------------------------------------------------------- links
 

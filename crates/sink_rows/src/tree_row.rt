@@ -22,14 +22,10 @@ pub fn rows_fit(len: usize, rows: u32) -> bool
 }
 
 // Nothing is written where the row does not fit.
-#[tactic(auto, using(crate::proofs::Chains::row_written), unfolding(layout::specs::Rows::put_row))]
 pub fn write_row(trees: &mut [u32], row: u32, numbers: [u32; TREE_ROW])
     ensures { trees.new ≡ put row numbers trees.old }
 {
-    if (row as usize) < rows::row_count::<TREE_ROW>(trees) {
-        let start = row as usize * TREE_ROW;
-        trees[start..start + TREE_ROW].copy_from_slice(&numbers);
-    }
+    rows::set_row(trees, row as usize, numbers);
 }
 
 // The open rows of a chain of n links whose innermost start is event i. The outermost node's is `first`.

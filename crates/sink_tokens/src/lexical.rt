@@ -25,7 +25,7 @@ fn log_token(errors: &mut [u32], found: u32, kind: u32, start: u32, end: u32) ->
     if kind < FIRST_LEX_ERROR {
         return found;
     }
-    rows::put_row(errors, found as usize * ERROR_ROW, [kind, start, end]);
+    rows::set_row(errors, found as usize, [kind, start, end]);
     word::add(found, 1)
 }
 

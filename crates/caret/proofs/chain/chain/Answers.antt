@@ -15,9 +15,7 @@ overflow_cast-spot c =
     omega (arith, f.at, f.few, c.requires.2)
 
 pub returns-then-trees-spot-eq-LEAF : goal.returns-then-trees-spot-eq-LEAF
-returns-then-trees-spot-eq-LEAF c =
-    let all = ends_at c.loop-spot.invariant c.seek-spot.result c.seek-spot.ensures.value c.put.new.list c.put.ensures c.if-trees-spot-eq-LEAF.true in
-    record { value = all.0; list_after = all.1 }
+returns-then-trees-spot-eq-LEAF c = ends_at c.loop-spot.invariant c.seek-spot.result c.seek-spot.ensures.value c.put.new.list c.put.ensures c.if-trees-spot-eq-LEAF.true
 
 pub loop-spot-preserved : goal.loop-spot-preserved
 loop-spot-preserved c = on_from c.loop-spot.invariant c.seek-spot.result c.seek-spot.ensures.value c.put.new.list c.put.ensures c.if-trees-spot-eq-LEAF.false

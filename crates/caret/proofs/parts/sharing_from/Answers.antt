@@ -12,8 +12,8 @@ use Rattle.caret.proofs.parts.sharing_from.Goals.{then-shares, else-shares}
 
 pub loop-index-init : goal.loop-index-init
 loop-index-init c =
-    let s = c in
-    listing_starts s.args.from s.args.to s.args.trees.now s.args.list.now s.args.first s.args.first_byte s.requires.0
+    let a = c.args in
+    listing_starts a.from a.to a.trees.now a.list.now a.first a.first_byte c.requires.0
 
 pub overflow_cast-index : goal.overflow_cast-index
 overflow_cast-index c = omega (arith, few_here c.loop-index.invariant c.loop-index-test.true, c.requires.1)
@@ -44,11 +44,7 @@ loop-index-preserved c =
     listing_on l.invariant c.loop-index-test.true c.past-index.result n.count n.list c.past-index.ensures listed.0 listed.1
 
 pub returns-else-start-to : goal.returns-else-start-to
-returns-else-start-to c =
-    let all = listing_over c.loop-index.invariant c.if-start-to.false in
-    record { value = all.0; list_after = all.1 }
+returns-else-start-to c = listing_over c.loop-index.invariant c.if-start-to.false
 
 pub returns-after-loop-index : goal.returns-after-loop-index
-returns-after-loop-index c =
-    let all = listing_ends c.loop-index.invariant (omega (arith, c.loop-index-test.false)) in
-    record { value = all.0; list_after = all.1 }
+returns-after-loop-index c = listing_ends c.loop-index.invariant (omega (arith, c.loop-index-test.false))
