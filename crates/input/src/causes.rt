@@ -107,7 +107,8 @@ fn check_rows(size: usize, rows: &[[u32; TOKEN_ROW]]) -> Result<(), Unsound>
 // Which of 11 to 13 a row has, where `left` bytes of the input are not yet covered; or what is left after it.
 #[tactic(auto, using(crate::proofs::RowChecks::row_verdicts))]
 fn check_row(kind: u32, n: usize, left: usize, at: TokenIndex) -> Result<usize, Unsound>
-    ensures value { (start : ℕ) → verdict_of result ≡ check_row at.0 start (start + left) (record { kind = kind; len = n }) }
+    ensures value { (start : ℕ) → verdict_of result
+        ≡ check_row at.0 start (start + left) (record { kind = kind; len = n }) }
     ensures rest { IfOk result (λ rest. rest + n ≡ left) }
 {
     if !is_input_kind(kind) {

@@ -1,6 +1,7 @@
 // The numbers of the layout, each once: token kinds and sets of them, node kinds, event tags, row sizes, messages,
 // hints, expectations, refusals, limits and settings. In the definitions they stand in specs/Layout, TokenKind,
-// LexError, NodeKind and Errors, the sets in Check and Grammar. Beside them: what is trivia, and sums of 32 bits.
+// LexError, NodeKind and Errors, the sets in Check and Grammar. Beside them: what is trivia, rows in lent buffers, and
+// sums of 32 bits.
 #![tactic(auto)]
 
 pub mod event_tag;
