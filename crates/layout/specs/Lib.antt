@@ -1,0 +1,2 @@
+-- What the contracts over lent buffers cite.
+pub mod Rows
