@@ -13,14 +13,23 @@ fn after_blanks(text: &[u8]) -> &[u8]
     &text[blanks..]
 }
 
-const WORDS: [&[u8]; 9] = [
-    b"if", b"elif", b"else", b"endif", b"pragma", b"define", b"undef", b"include", b"error",
-];
+const E_WORDS: [&[u8]; 4] = [b"elif", b"else", b"endif", b"error"];
 
-fn begins_with_word(text: &[u8]) -> bool
+// By the first letter, since most names that follow a `#` are no such words.
+fn begins_with_one(text: &[u8]) -> bool
     ensures { result ≡ begins_with_one directive_words text.now }
 {
-    WORDS.iter().any(|word| text.starts_with(word))
+    let [first, ..] = text else {
+        return false;
+    };
+    match *first {
+        b'd' => text.starts_with(b"define"),
+        b'e' => E_WORDS.iter().any(|word| text.starts_with(word)),
+        b'i' => text.starts_with(b"if") || text.starts_with(b"include"),
+        b'p' => text.starts_with(b"pragma"),
+        b'u' => text.starts_with(b"undef"),
+        _ => false,
+    }
 }
 
 // Whether one starts at a byte.
@@ -28,5 +37,5 @@ pub fn starts_at(bytes: &[u8], at: usize) -> bool
     requires { at < length bytes.now }
     ensures { result ≡ is_directive (drop at bytes.now) }
 {
-    bytes[at] == b'#' && begins_with_word(after_blanks(&bytes[at + 1..]))
+    bytes[at] == b'#' && begins_with_one(after_blanks(&bytes[at + 1..]))
 }

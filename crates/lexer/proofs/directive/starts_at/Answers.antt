@@ -10,7 +10,7 @@ returns-then-bytes-at-eq35 c =
     let a = c.args in
     let s = a.bytes.now in
     let n = a.at + 1 in
-    rw (directive_at s a.at c.requires, eq-eqb _ _ c.if-bytes-at-eq35.true, c.begins_with_word.ensures, c.after_blanks.ensures, tail s n)
+    rw (directive_at s a.at c.requires, eq-eqb _ _ c.if-bytes-at-eq35.true, c.begins_with_one.ensures, c.after_blanks.ensures, tail s n)
 
 pub returns-else-bytes-at-eq35 : goal.returns-else-bytes-at-eq35
 returns-else-bytes-at-eq35 c =
