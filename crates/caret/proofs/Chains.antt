@@ -205,15 +205,16 @@ module _ {byte : ℕ} {trees list₀ list : List ℕ} {index left count : ℕ} (
     pub at_hand : Found trees w.row index left s
     at_hand = subst (Found trees w.row index left) (sym e) sought
 
-    pub ends_at : (list' : List ℕ) → list' ≡ set list count (s.index / TREE_ROW) → get_or trees s.index 0 ≡ LEAF
-        → Lists (holding 0 byte (tree_rows_of trees)) (count + 1) list₀ list'
-    ends_at list' p h =
+    pub ends_at : (count' : ℕ) (list' : List ℕ) → count' ≡ suc count → list' ≡ set list count (s.index / TREE_ROW) → get_or trees s.index 0 ≡ LEAF
+        → Lists (holding 0 byte (tree_rows_of trees)) count' list₀ list'
+    ends_at count' list' n p h =
         let z = walk_ends (ap (λ (x : Spot). get_or trees x.index 0) (sym e) ∙ h) in
-        record { many = z.0; listed = p ∙ ap (λ (x : Spot). set list count (x.index / TREE_ROW)) e ∙ z.1 }
+        record { many = omega (arith, n, z.0); listed = p ∙ ap (λ (x : Spot). set list count (x.index / TREE_ROW)) e ∙ z.1 }
 
-    pub on_from : (list' : List ℕ) → list' ≡ set list count (s.index / TREE_ROW) → (get_or trees s.index 0 ≡ LEAF → ⊥)
-        → Walked byte trees list₀ list' (s.index + TREE_ROW) s.left (count + 1)
-    on_from list' p h =
+    pub on_from : (count' : ℕ) (list' : List ℕ) → count' ≡ suc count → list' ≡ set list count (s.index / TREE_ROW) → (get_or trees s.index 0 ≡ LEAF → ⊥)
+        → Walked byte trees list₀ list' (s.index + TREE_ROW) s.left count'
+    on_from count' list' n p h =
         let z = walk_on (λ q. h (ap (λ (x : Spot). get_or trees x.index 0) e ∙ q)) in
-        subst (λ (l : List ℕ). Walked byte trees list₀ l (s.index + TREE_ROW) s.left (count + 1)) (sym p)
-        (subst (λ (x : Spot). Walked byte trees list₀ (set list count (x.index / TREE_ROW)) (x.index + TREE_ROW) x.left (count + 1)) (sym e) z)
+        let one : count + 1 ≡ count' = omega (arith, n) in
+        subst (λ (k : ℕ). Walked byte trees list₀ list' (s.index + TREE_ROW) s.left k) one (subst (λ (l : List ℕ). Walked byte trees list₀ l (s.index + TREE_ROW) s.left (count + 1)) (sym p)
+        (subst (λ (x : Spot). Walked byte trees list₀ (set list count (x.index / TREE_ROW)) (x.index + TREE_ROW) x.left (count + 1)) (sym e) z))

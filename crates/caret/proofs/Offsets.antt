@@ -32,6 +32,9 @@ module _ (offset size : ℕ) (l : List Row) where
 pub as_listed : {x y : List ℕ} {n : ℕ} {before after : List ℕ} → x ≡ y → Lists y n before after → Lists x n before after
 as_listed {n = n} {before = before} {after = after} e h = subst (λ (l : List ℕ). Lists l n before after) (sym e) h
 
+pub left_on : {x : List ℕ} {n : ℕ} {before after list : List ℕ} → Lists x n before after → list ≡ after → Lists x n before list
+left_on h e = record { many = h.many; listed = e ∙ h.listed }
+
 pub lists_none : (list : List ℕ) → Lists [] 0 list list
 unfolding laid
 lists_none list = record { many = refl; listed = refl }
@@ -41,5 +44,5 @@ unfolding laid
 laid_one [] n = refl
 laid_one (x ∷ list) n = refl
 
-pub lists_one : (list list' : List ℕ) (n : ℕ) → list' ≡ set list 0 n → Lists (n ∷ []) 1 list list'
-lists_one list list' n e = record { many = refl; listed = e ∙ laid_one list n }
+pub lists_one : (list list' : List ℕ) (n count : ℕ) → count ≡ 1 → list' ≡ set list 0 n → Lists (n ∷ []) count list list'
+lists_one list list' n count c e = record { many = c; listed = e ∙ laid_one list n }

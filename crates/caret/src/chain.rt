@@ -7,7 +7,7 @@ ghost use Rattle.rows.specs.ResultRows.{raw_bytes};
 ghost use Rattle.rows.specs.OnePass.{tree_rows_of, holding, found, Classes, Sound};
 ghost use Rattle.caret.specs.Walk.{Lists, seek_from};
 
-use crate::list::put;
+use crate::list::Listed;
 use layout::row::{LEAF, TREE_ROW, TREE_WIDTH};
 
 // A row, by the index of its first number, and how far after the row's start the byte is.
@@ -61,13 +61,12 @@ fn chain(byte: u32, trees: &[u32], list: &mut [u32]) -> usize
         index: 0,
         left: byte,
     };
-    let mut count = 0;
+    let mut listed = Listed { list, count: 0 };
     loop {
         spot = seek(trees, spot);
-        put(list, count, (spot.index / TREE_ROW) as u32);
-        count += 1;
+        listed.push((spot.index / TREE_ROW) as u32);
         if trees[spot.index] == LEAF {
-            return count;
+            return listed.count;
         }
         spot.index += TREE_ROW;
     }
@@ -84,8 +83,9 @@ pub fn rows_at(offset: u64, size: usize, trees: &[u32], list: &mut [u32]) -> usi
     } else if offset != length {
         0
     } else if size == 0 {
-        put(list, 0, 0);
-        1
+        let mut listed = Listed { list, count: 0 };
+        listed.push(0);
+        listed.count
     } else {
         chain((size - 1) as u32, trees, list)
     }

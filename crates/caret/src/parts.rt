@@ -7,7 +7,7 @@ ghost use Rattle.rows.specs.OnePass.{tree_rows_of, starting, found, Classes, Add
 ghost use Rattle.caret.specs.Walk.{Lists, passed, Starts};
 
 use crate::chain::{Spot, seek};
-use crate::list::put;
+use crate::list::Listed;
 use layout::row::{TREE_ROW, TREE_WIDTH};
 
 fn shares(from: u64, to: u64, start: u64, end: u64) -> bool
@@ -46,18 +46,17 @@ fn sharing_from(
 {
     let mut index = first;
     let mut start = first_byte;
-    let mut count = 0;
+    let mut listed = Listed { list, count: 0 };
     while index + TREE_ROW <= trees.len() && start < to {
         let width = trees[index + TREE_WIDTH];
         let end = start + width as u64;
         if shares(from, to, start, end) {
-            put(list, count, (index / TREE_ROW) as u32);
-            count += 1;
+            listed.push((index / TREE_ROW) as u32);
         }
         index = past(trees, index + TREE_ROW, width - trees[index] * width);
         start = end;
     }
-    count
+    listed.count
 }
 
 // In a file of so many bytes. The first part is sought: the first row after the root that has the range's first byte.
