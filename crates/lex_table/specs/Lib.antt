@@ -3,3 +3,4 @@ pub mod States
 pub mod Table
 pub mod Matches
 pub mod Ties
+pub mod Callbacks

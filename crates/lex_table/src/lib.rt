@@ -4,6 +4,7 @@
 // (from BLOCK_COMMENT on), and the one in which nothing can match any more.
 #![tactic(auto)]
 
+pub mod callback;
 mod table;
 
 ghost use Rattle.std.specs.Prelude.{◌≡◌, ◌<◌};
@@ -18,13 +19,11 @@ pub const FIRST_SILENT: usize = 5376;
 pub const FIRST_FINAL: usize = 24576;
 
 // The callbacks, in the order of the rows of their states.
-pub const BLOCK_COMMENT: usize = 32768;
+const BLOCK_COMMENT: usize = 32768;
 
-pub const STRING: usize = 33024;
+const STRING: usize = 33024;
 
-pub const CHAR: usize = 33280;
-
-pub const BYTESTRING: usize = 33536;
+const CHAR: usize = 33280;
 
 pub const DEAD: usize = 33792;
 

@@ -22,26 +22,13 @@ use Rattle.lexer.specs.Found.{end_of, closed, Hits, TokenHere}
 -- ---------------------------------------------------------------- a callback's answer
 
 -- with an error where there is no end
-pub closed_or : (kind error n row : ℕ) (rest : List ℕ) (c : Callback) (r : Option ℕ) {e : End} → end_of r ≡ e → callback_of (row / 256) ≡ c
-    → finish n kind c rest ≡ close kind error n rest e → closed kind n rest (ok_or r error) ≡ finish n kind (callback_of (row / 256)) rest
-closed_or kind error n row rest c r e w f =
-    go r ∙ ap (close kind error n rest) e ∙ sym f ∙ ap (λ (x : Callback). finish n kind x rest) (sym w)
+pub closed_or : (kind error n : ℕ) (rest : List ℕ) (c : Callback) (r : Option ℕ) {e : End} → end_of r ≡ e
+    → finish n kind c rest ≡ close kind error n rest e → closed kind n rest (ok_or r error) ≡ finish n kind c rest
+closed_or kind error n rest c r e f = go r ∙ ap (close kind error n rest) e ∙ sym f
   where
     go : (r : Option ℕ) → closed kind n rest (ok_or r error) ≡ close kind error n rest (end_of r)
     go (Some m) = refl
     go None = refl
-
--- the last state with a callback
-pub last_callback : (row : ℕ) → row / 256 * 256 ≡ row → 32768 ≤ row → (row ≡ 32768 → ⊥) → (row ≡ 33024 → ⊥) → (row ≡ 33280 → ⊥)
-    → callback_of (row / 256) ≡ lex_bytestring
-unfolding callback_of
-last_callback row w h a b c =
-    let i = row / 256 in
-    let z : ltb i 128 ≡ false = le-ltb i 128 (omega (arith, w, h)) in
-    let x : eqb i 128 ≡ false = ne_eqb i 128 (λ e. a (omega (arith, w, e))) in
-    let y : eqb i 129 ≡ false = ne_eqb i 129 (λ e. b (omega (arith, w, e))) in
-    let v : eqb i 130 ≡ false = ne_eqb i 130 (λ e. c (omega (arith, w, e))) in
-    rw (z, x, y, v)
 
 -- ---------------------------------------------------------------- where a match starts
 
@@ -99,21 +86,18 @@ module _ (bytes : List ℕ) (at row end : ℕ) (h : at < length bytes) (s : Hits
       ap (λ (i : ℕ). drop i bytes) s.ends ∙ sym (drop-drop s.len at bytes) in
       (λ i. finish s.len ((e ∙ ap (λ (j : ℕ). get_or kinds j 0) number) i) (callback_of (number i)) (d i)) ∙ made false y
 
-  pub plain_here : (k : ℕ) → (row ≡ 0 → ⊥) → k ≡ kind_of_row row → row < 32768 → TokenHere bytes at k end
-  unfolding finish callback_of
+  pub plain_here : (k : ℕ) → (row ≡ 0 → ⊥) → k ≡ kind_of_row row → no_callback ≡ callback_of (row / 256) → TokenHere bytes at k end
+  unfolding finish
   plain_here k z e p =
-      let q : ltb (row / 256) 128 ≡ true = lt-ltb (row / 256) 128 (omega (arith, p)) in
-      here bytes at k end s.len h s.ends (ap (λ (c : Callback). finish s.len k c (drop end bytes)) (sym (plain q)) ∙ finished k z e)
-    where
-      plain : ltb (row / 256) 128 ≡ true → callback_of (row / 256) ≡ no_callback
-      plain q = rw q
+      here bytes at k end s.len h s.ends (ap (λ (c : Callback). finish s.len k c (drop end bytes)) p ∙ finished k z e)
 
-  pub called_here : (k kind' end' : ℕ) → (row ≡ 0 → ⊥) → k ≡ kind_of_row row
-      → a_token kind' end' ≡ finish end k (callback_of (row / 256)) (drop end bytes) → TokenHere bytes at kind' end'
-  called_here k kind' end' z e f =
+  pub called_here : (k kind' end' : ℕ) {c : Callback} → (row ≡ 0 → ⊥) → k ≡ kind_of_row row → c ≡ callback_of (row / 256)
+      → a_token kind' end' ≡ finish end k c (drop end bytes) → TokenHere bytes at kind' end'
+  called_here k kind' end' z e p f =
       let t = finish s.len k (callback_of (row / 256)) (drop end bytes) in
       let g : a_token kind' end' ≡ from_before at t =
-      f ∙ ap (λ (i : ℕ). finish i k (callback_of (row / 256)) (drop end bytes)) s.ends
+      f ∙ ap (λ (x : Callback). finish end k x (drop end bytes)) p
+      ∙ ap (λ (i : ℕ). finish i k (callback_of (row / 256)) (drop end bytes)) s.ends
       ∙ finish_before at s.len k (callback_of (row / 256)) (drop end bytes) in
       here bytes at kind' end' t.len h (ap (λ (x : Token). x.len) g)
       ((λ i. a_token ((ap (λ (x : Token). x.kind) g) i) t.len) ∙ finished k z e)

@@ -13,12 +13,12 @@ returns-then-hit-eq-START c =
     let s = c.longest-hit in
     none_here a.bytes.now a.at s.result.row s.result.end c.requires s.ensures c.if-hit-eq-START.true
 
-pub returns-then-hit-lt-BLOCK_COMMENT : goal.returns-then-hit-lt-BLOCK_COMMENT
-returns-then-hit-lt-BLOCK_COMMENT c =
+pub returns-in_default : goal.returns-in_default
+returns-in_default c =
     let a = c.args in
     let s = c.longest-hit in
     plain_here a.bytes.now a.at s.result.row s.result.end c.requires s.ensures c.from-kind.result c.if-hit-eq-START.false
-    (c.from-kind.ensures ∙ c.kind_of.ensures) c.if-hit-lt-BLOCK_COMMENT.true
+    (c.from-kind.ensures ∙ c.kind_of.ensures) c.in_default.ensures
 
 pub returns-in-Ok : goal.returns-in-Ok
 returns-in-Ok c =
@@ -26,7 +26,7 @@ returns-in-Ok c =
     let s = c.longest-hit in
     let k = c.from-kind.result in
     called_here a.bytes.now a.at s.result.row s.result.end c.requires s.ensures k k (s.result.end + c.in-Ok.n) c.if-hit-eq-START.false
-    (c.from-kind.ensures ∙ c.kind_of.ensures) (rw (tail a.bytes.now s.result.end) at (c.in-Ok.ensures.found k s.result.end))
+    (c.from-kind.ensures ∙ c.kind_of.ensures) c.in-Some.ensures (rw (tail a.bytes.now s.result.end) at (c.in-Ok.ensures.found k s.result.end))
 
 pub returns-in-Err : goal.returns-in-Err
 returns-in-Err c =
@@ -36,4 +36,4 @@ returns-in-Err c =
     let rest = drop s.result.end a.bytes.now in
     let e : length a.bytes.now ≡ s.result.end + length rest = omega (arith, length-drop s.result.end a.bytes.now, s.ensures.inside) in
     called_here a.bytes.now a.at s.result.row s.result.end c.requires s.ensures k c.in-Err.error (length a.bytes.now) c.if-hit-eq-START.false
-    (c.from-kind.ensures ∙ c.kind_of.ensures) (rw e (rw (tail a.bytes.now s.result.end) at (c.in-Err.ensures.found k s.result.end)))
+    (c.from-kind.ensures ∙ c.kind_of.ensures) c.in-Some.ensures (rw e (rw (tail a.bytes.now s.result.end) at (c.in-Err.ensures.found k s.result.end)))
