@@ -56,18 +56,6 @@ pub record Passed (bytes rows₀ rows : List ℕ) (at index : ℕ) : Type 0 wher
   pub written : AllFit bytes rows₀ → take index rows ++ numbers_of (lex (drop at bytes)) ≡ numbers_of (lex bytes)
   pub rest : AllFit bytes rows₀ → drop index rows ≡ drop index rows₀
 
-pub at_start : (bytes rows : List ℕ) → Passed bytes rows rows 0 0
-at_start bytes rows =
-    record {
-      inside = omega arith;
-      few = omega arith;
-      same_length = refl;
-      found = refl;
-      counted = omega arith;
-      written = λ h. refl;
-      rest = λ h. refl;
-    }
-
 -- ---------------------------------------------------------------- a token
 
 module _ (bytes rows₀ rows : List ℕ) (at index : ℕ) (p : Passed bytes rows₀ rows at index) (h : at < length bytes) where
