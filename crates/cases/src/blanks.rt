@@ -23,9 +23,9 @@ pub fn bytes(alloc: Global, count: usize) -> Result<Vec<u8>, AllocError>
 
 // So many numbers of token rows. The last row may be without its length.
 pub fn tokens(alloc: Global, numbers: usize) -> Result<Vec<u32>, AllocError>
-    ensures { IfOk result (λ v. vec_len v ≤ numbers) }
+    ensures { IfOk result (λ v. vec_len v ≡ numbers) }
 {
-    TOKEN.iter().copied().cycle().take(numbers).collect(alloc)
+    (0..numbers).map(|i| TOKEN[i % TOKEN_ROW]).collect(alloc)
 }
 
 // How many rows after the root's are a leaf of one blank, up to the first that is not.

@@ -2,7 +2,7 @@
 ghost use Rattle.std.specs.Prelude.{◌≡◌, ◌↔◌, IsTrue, All, drop, IfOk};
 ghost use Rattle.cases.specs.Scanner.{ReadsOn};
 ghost use Rattle.cases.specs.Lent.{IsLent, lent};
-ghost use Rattle.cases.specs.declared.lend.Tail.TheVariants.{Zeros};
+ghost use Rattle.cases.specs.declared.lend.Tail.TheVariants.{Zeros, Lent};
 
 use crate::scan::Scanner;
 use std::alloc::{AllocError, Global};
@@ -99,7 +99,8 @@ fn are_all(numbers: &[u32], n: u32) -> bool
 
 impl Tail {
     pub fn of(buffer: &[u32], from: usize) -> Self
-        ensures { (result ≡ Zeros) ↔ All (λ n. n ≡ 0) (drop from buffer.now) }
+        ensures zeros { (result ≡ Zeros) ↔ All (λ n. n ≡ 0) (drop from buffer.now) }
+        ensures lent { result ≡ Lent → All (λ n. n ≡ LENT) (drop from buffer.now) }
     {
         let tail = &buffer[from.min(buffer.len())..];
         if are_all(tail, 0) {

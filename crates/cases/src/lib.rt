@@ -3,8 +3,8 @@
 #![tactic(auto)]
 
 pub mod blanks;
-pub mod each;
 pub mod lend;
+pub mod list;
 pub mod read;
 pub mod scan;
 pub mod show;

@@ -5,7 +5,7 @@ ghost use Rattle.cases.specs.Scanner.{ReadsOn};
 use std::alloc::{AllocError, Global};
 
 // What is left to read.
-#[derive(Clone, Copy)]
+#[derive(Drop)]
 pub struct Scanner<'a> {
     pub rest: &'a [u8],
 }
@@ -54,6 +54,7 @@ impl<'a> Scanner<'a> {
         ensures { ReadsOn self.old self.new }
     {
         self.bytes_while(|b| !b.is_ascii_digit());
+        // The low four bits of a digit are its value.
         let digits = self.bytes_while(|b| b.is_ascii_digit());
         digits.iter().fold(0u32, |n, b| {
             n.wrapping_mul(10).wrapping_add(u32::from(*b % 16))

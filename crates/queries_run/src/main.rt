@@ -15,8 +15,8 @@ ghost use Rattle.cases.specs.Scanner.{ReadsOn};
 
 use crate::asked::Asked;
 use caret::Query;
-use cases::each::each;
 use cases::lend::{Buffers, Sizes, Tail};
+use cases::list::each_case;
 use cases::scan::Scanner;
 use cases::show::{Out, first};
 use cases::{blanks, lend, read};
@@ -78,7 +78,7 @@ fn main(rt: HostRuntime) -> io::Result<()> {
     let alloc = rt.alloc();
     let mut out = BufWriter::new(alloc, rt.stdout())?;
     let list = read::at_most(alloc, rt.stdin(), read::MOST)?;
-    each(&list, |scanner| case(alloc, &mut out, scanner))?;
+    each_case(&list, |scanner| case(alloc, &mut out, scanner))?;
     blank_file(alloc, &mut out, "65537-blanks-caret", Query::Caret(0))?;
     blank_file(alloc, &mut out, "65537-blanks-range", Query::Range(0, 1))?;
     out.flush()

@@ -37,7 +37,7 @@ fn called(alloc: Global, out: &mut Out, name: &str, head: Head) -> io::Result<()
     let bytes = blanks::bytes(alloc, head.bytes)?;
     let tokens = blanks::tokens(alloc, head.token_numbers)?;
     let mut lent = Buffers::new(alloc, head.lent)?;
-    let answer = head.parse(&bytes, &tokens, &mut lent);
+    let answer = head.call(&bytes, &tokens, &mut lent);
     left::show(out, name.as_bytes(), answer, TREE_ROW, &lent)?;
     if answer.number == 0 {
         writeln!(out, "blanks {}", blanks::leaves(&lent.trees))?;

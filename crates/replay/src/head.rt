@@ -33,8 +33,8 @@ impl Head {
         }
     }
 
-    // The call on these token numbers.
-    pub fn parse(&self, bytes: &[u8], tokens: &[u32], lent: &mut Buffers) -> Answer
+    // The call on these bytes and token numbers.
+    pub fn call(&self, bytes: &[u8], tokens: &[u32], lent: &mut Buffers) -> Answer
         ensures { result_of result (held lent.new)
             ≡ Call.call self.now.entry self.now.setting bytes.now tokens.now (held lent.old) }
     {

@@ -9,8 +9,8 @@ pub mod left;
 ghost use Rattle.cases.specs.Scanner.{ReadsOn};
 
 use crate::head::Head;
-use cases::each::each;
 use cases::lend::Buffers;
+use cases::list::each_case;
 use cases::scan::Scanner;
 use cases::show::Out;
 use cases::{lend, read};
@@ -27,12 +27,12 @@ fn case(alloc: Global, out: &mut Out, scanner: &mut Scanner<'_>) -> io::Result<(
     scanner.bytes(1);
     let bytes = scanner.bytes(head.bytes);
     let mut lent = Buffers::new(alloc, head.lent)?;
-    let answer = head.parse(bytes, &tokens, &mut lent);
+    let answer = head.call(bytes, &tokens, &mut lent);
     left::show(out, name, answer, lend::TREES, &lent)
 }
 
 // All cases of a list that is read from here.
 pub fn run<R: Read + Drop>(alloc: Global, input: R, out: &mut Out) -> io::Result<()> {
     let list = read::at_most(alloc, input, read::MOST)?;
-    each(&list, |scanner| case(alloc, out, scanner))
+    each_case(&list, |scanner| case(alloc, out, scanner))
 }

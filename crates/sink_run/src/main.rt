@@ -9,7 +9,7 @@ mod print;
 
 ghost use Rattle.cases.specs.Scanner.{ReadsOn};
 
-use cases::each::each;
+use cases::list::each_case;
 use cases::read;
 use cases::scan::Scanner;
 use cases::show::Out;
@@ -51,7 +51,7 @@ fn main(rt: HostRuntime) -> io::Result<()> {
     let alloc = rt.alloc();
     let mut out = BufWriter::new(alloc, rt.stdout())?;
     let list = read::at_most(alloc, rt.stdin(), MOST)?;
-    each(&list, |scanner| case(alloc, &mut out, scanner))?;
+    each_case(&list, |scanner| case(alloc, &mut out, scanner))?;
     deep::run(alloc, &mut out)?;
     out.flush()
 }

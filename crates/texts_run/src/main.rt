@@ -12,8 +12,8 @@ ghost use Rattle.call.specs.Result.{text_result_of};
 ghost use Rattle.replay.specs.Held.{held};
 
 use call::text::TextAnswer;
-use cases::each::each;
 use cases::lend::{Buffers, Tail};
+use cases::list::each_case;
 use cases::scan::Scanner;
 use cases::show::{Out, first};
 use cases::{lend, read};
@@ -67,6 +67,6 @@ fn main(rt: HostRuntime) -> io::Result<()> {
     let alloc = rt.alloc();
     let mut out = BufWriter::new(alloc, rt.stdout())?;
     let list = read::at_most(alloc, rt.stdin(), read::MOST)?;
-    each(&list, |scanner| case(alloc, &mut out, scanner))?;
+    each_case(&list, |scanner| case(alloc, &mut out, scanner))?;
     out.flush()
 }

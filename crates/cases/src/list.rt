@@ -5,7 +5,7 @@ use crate::scan::Scanner;
 use std::io;
 
 // A case reads its own part of the text; a line end follows it.
-pub fn each<F: FnMut(&mut Scanner<'_>) -> io::Result<()>>(
+pub fn each_case<F: FnMut(&mut Scanner<'_>) -> io::Result<()>>(
     list: &[u8],
     mut case: F,
 ) -> io::Result<()>
