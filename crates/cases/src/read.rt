@@ -1,20 +1,18 @@
 // The text of standard input.
-ghost use Rattle.std.specs.Prelude.{◌≤◌, length, IfOk};
+ghost use Rattle.std.specs.Prelude.{◌≡◌, IfOk, IfSome, take};
 
+use std::alloc::Global;
 use std::io;
-use std::io::{Read, Stdin};
+use std::io::Read;
 
-// Reads until the text is full or the input ends. Answers how many bytes of the text it wrote.
-pub fn full(input: &mut Stdin, text: &mut [u8]) -> io::Result<usize>
-    ensures { IfOk result (λ n. n ≤ length text.new) }
+// No list of cases is longer.
+pub const MOST: u64 = 524288;
+
+// Up to where the input ends, but no more than so many bytes.
+pub fn at_most<R: Read + Drop>(alloc: Global, input: R, most: u64) -> io::Result<Vec<u8>>
+    ensures { IfOk result (λ text. IfSome (R.remaining input) (λ bytes. text.items ≡ take most bytes)) }
 {
-    let mut done: usize = 0;
-    while done < text.len() {
-        let n = input.read(&mut text[done..])?;
-        if n == 0 {
-            return Ok(done);
-        }
-        done += n;
-    }
-    Ok(done)
+    let mut text = Vec::new(alloc);
+    input.take(most).read_to_end(&mut text)?;
+    Ok(text)
 }

@@ -1,107 +1,83 @@
-// Places and numbers in the text of a list of cases.
-ghost use Rattle.std.specs.Prelude.{◌≤◌, length};
+// The text of a list of cases, read from the front.
+ghost use Rattle.std.specs.Prelude.{◌≡◌, ◌++◌, ◌≤◌, ◌↔◌, IsTrue, length, IfOk, vec_len, take, drop};
+ghost use Rattle.cases.specs.Scanner.{ReadsOn};
 
-use layout::word::low32;
+use std::alloc::{AllocError, Global};
 
-pub fn least(a: usize, b: usize) -> usize
-    ensures { result ≤ b }
-{
-    if a < b { a } else { b }
+// What is left to read.
+#[derive(Drop)]
+pub struct Scanner<'a> {
+    pub rest: &'a [u8],
 }
 
-// A number that is read, but at most another.
-pub fn at_most(n: u32, most: usize) -> usize
-    ensures { result ≤ most }
-{
-    least(n as usize, most)
-}
+impl<'a> Scanner<'a> {
+    pub fn new(text: &'a [u8]) -> Self
+        ensures { result.rest.now ≡ text.now }
+    {
+        Scanner { rest: text }
+    }
 
-// The first index from one on at which the byte stands, or the text's length.
-pub fn find(text: &[u8], from: usize, b: u8) -> usize
-    requires { from ≤ length text.now }
-    ensures lower_bound { from ≤ result }
-    ensures upper_bound { result ≤ length text.now }
-{
-    let mut i = from;
-    while i < text.len() {
-        if text[i] == b {
-            return i;
+    pub fn is_empty(&self) -> bool
+        ensures { IsTrue result ↔ (length self.now.rest.now ≡ 0) }
+    {
+        self.rest.is_empty()
+    }
+
+    // So many bytes, where there are as many.
+    pub fn bytes(&mut self, n: usize) -> &'a [u8]
+        ensures read { result.now ≡ take n self.old.rest.now }
+        ensures left { self.new.rest.now ≡ drop n self.old.rest.now }
+    {
+        let (read, rest) = self.rest.split_at(n.min(self.rest.len()));
+        self.rest = rest;
+        read
+    }
+
+    // The bytes up to the first that does not meet a condition.
+    fn bytes_while<F: Fn(u8) -> bool>(&mut self, is_met: F) -> &'a [u8]
+        requires { F.IsAlwaysCallable is_met }
+        ensures { self.old.rest.now ≡ result.now ++ self.new.rest.now }
+    {
+        let end = self.rest.iter().position(|b| !is_met(*b));
+        self.bytes(end.unwrap_or(self.rest.len()))
+    }
+
+    // The bytes before the first of these, or all where there is none.
+    pub fn until(&mut self, end: u8) -> &'a [u8]
+        ensures { self.old.rest.now ≡ result.now ++ self.new.rest.now }
+    {
+        self.bytes_while(|b| b != end)
+    }
+
+    // The next number, without what stands before it. Of a longer one the 32 low bits are kept; past the last it is 0.
+    pub fn number(&mut self) -> u32
+        ensures { ReadsOn self.old self.new }
+    {
+        self.bytes_while(|b| !b.is_ascii_digit());
+        // The low four bits of a digit are its value.
+        let digits = self.bytes_while(|b| b.is_ascii_digit());
+        digits.iter().fold(0u32, |n, b| {
+            n.wrapping_mul(10).wrapping_add(u32::from(*b % 16))
+        })
+    }
+
+    // The next number, but at most another.
+    pub fn number_at_most(&mut self, most: usize) -> usize
+        ensures upper_bound { result ≤ most }
+        ensures left { ReadsOn self.old self.new }
+    {
+        most.min(self.number() as usize)
+    }
+
+    // The next so many numbers.
+    pub fn numbers(&mut self, alloc: Global, count: usize) -> Result<Vec<u32>, AllocError>
+        ensures count { IfOk result (λ v. vec_len v ≡ count) }
+        ensures left { ReadsOn self.old self.new }
+    {
+        let mut numbers = Vec::new(alloc);
+        for _ in 0..count {
+            numbers.push(self.number())?;
         }
-        i += 1;
+        Ok(numbers)
     }
-    i
-}
-
-fn is_digit(b: u8) -> bool {
-    if b < b'0' { false } else { b <= b'9' }
-}
-
-// The index after the digits that start at one; the same index where there are none.
-fn run_end(text: &[u8], from: usize, digits: bool) -> usize
-    requires { from ≤ length text.now }
-    ensures lower_bound { from ≤ result }
-    ensures upper_bound { result ≤ length text.now }
-{
-    let mut i = from;
-    while i < text.len() {
-        if is_digit(text[i]) != digits {
-            return i;
-        }
-        i += 1;
-    }
-    i
-}
-
-// The index after the next number.
-fn number_end(text: &[u8], from: usize) -> usize
-    requires { from ≤ length text.now }
-    ensures lower_bound { from ≤ result }
-    ensures upper_bound { result ≤ length text.now }
-{
-    run_end(text, run_end(text, from, false), true)
-}
-
-// One digit more, of a number that stays below 2^32. What is not a digit counts for nothing.
-fn with_digit(value: u32, b: u8) -> u32 {
-    if !is_digit(b) {
-        return value;
-    }
-    low32(value as usize * 10 + (b % 16) as usize)
-}
-
-fn value(digits: &[u8]) -> u32 {
-    let mut n: u32 = 0;
-    let mut i: usize = 0;
-    while i < digits.len() {
-        n = with_digit(n, digits[i]);
-        i += 1;
-    }
-    n
-}
-
-// The next numbers, as many as `out` holds. Answers the index after the last.
-pub fn numbers(text: &[u8], from: usize, count: u32, out: &mut [u32]) -> usize
-    requires { from ≤ length text.now }
-    ensures lower_bound { from ≤ result }
-    ensures upper_bound { result ≤ length text.now }
-{
-    let n = at_most(count, out.len());
-    let mut byte = from;
-    let mut i: usize = 0;
-    while i < n {
-        let end = number_end(text, byte);
-        out[i] = value(&text[byte..end]);
-        byte = end;
-        i += 1;
-    }
-    byte
-}
-
-// So many bytes further, where there are as many.
-pub fn further(text: &[u8], from: usize, n: u32) -> usize
-    requires { from ≤ length text.now }
-    ensures lower_bound { from ≤ result }
-    ensures upper_bound { result ≤ length text.now }
-{
-    from + at_most(n, text.len() - from)
 }

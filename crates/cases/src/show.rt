@@ -1,43 +1,36 @@
 // Numbers as text on standard output.
-use std::io;
+ghost use Rattle.std.specs.Prelude.{◌≡◌, take};
+
 use std::io::{BufWriter, Stdout, Write};
+use std::{fmt, io};
 
 // Standard output behind a buffer.
 pub type Out = BufWriter<Stdout>;
 
-pub fn text(out: &mut Out, t: &[u8]) -> io::Result<()> {
-    out.write_all(t)
-}
+// Numbers of a buffer, each after a blank.
+#[derive(Clone, Copy)]
+pub struct Numbers<'a>(pub &'a [u32]);
 
-pub fn number(out: &mut Out, n: u64) -> io::Result<()> {
-    write!(out, " {n}")
-}
-
-pub fn line_end(out: &mut Out) -> io::Result<()> {
-    text(out, b"\n")
-}
-
-fn word(out: &mut Out, n: u32) -> io::Result<()> {
-    number(out, n as u64)
-}
-
-// A line of the numbers of a buffer from an index on and before another, after a name.
-pub fn numbers(out: &mut Out, name: &[u8], l: &[u32], from: usize, to: usize) -> io::Result<()> {
-    text(out, name)?;
-    let mut i = from;
-    while i < to {
-        if i < l.len() {
-            word(out, l[i])?;
+impl fmt::Display for Numbers<'_> {
+    fn fmt<W: fmt::Write>(&self, f: &mut fmt::Formatter<W>) -> fmt::Result {
+        for n in self.0 {
+            write!(f, " {n}")?;
         }
-        i += 1;
+        Ok(())
     }
-    line_end(out)
 }
 
-// The first so many; no line where there are none.
-pub fn first(out: &mut Out, name: &[u8], l: &[u32], count: usize) -> io::Result<()> {
-    if count > 0 {
-        numbers(out, name, l, 0, count)?;
+// The first so many numbers of a buffer, where it has as many.
+pub fn first(buffer: &[u32], count: usize) -> Numbers<'_>
+    ensures { result.0.now ≡ take count buffer.now }
+{
+    Numbers(&buffer[..count.min(buffer.len())])
+}
+
+// A line of the first so many after a name; no line where there are none.
+pub fn rows(out: &mut Out, name: &str, buffer: &[u32], count: usize) -> io::Result<()> {
+    if count == 0 {
+        return Ok(());
     }
-    Ok(())
+    writeln!(out, "{name}{}", first(buffer, count))
 }

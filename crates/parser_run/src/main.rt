@@ -2,8 +2,6 @@
 // fits, and one number fewer. (Refusal 5, a 65th open call, is the grammar's.)
 #![tactic(auto)]
 
-use cases::scan::least;
-use cases::show;
 use cases::show::Out;
 use layout::token_kind;
 use parser::matcher::Matcher;
@@ -15,57 +13,27 @@ use std::io::{BufWriter, Write};
 const TOKENS: [u32; 4] = [27, 1, 29, 1];
 
 fn say(out: &mut Out, s: State) -> io::Result<()> {
-    show::text(out, b": refusal")?;
-    show::number(out, s.refusal as u64)?;
-    show::text(out, b", place")?;
-    show::number(out, s.place.0 as u64)?;
-    show::line_end(out)
+    writeln!(out, ": refusal {}, place {}", s.refusal, s.place.0)
 }
 
-fn say_events(out: &mut Out, n: usize) -> io::Result<()> {
-    show::text(out, b"event numbers")?;
-    show::number(out, n as u64)
-}
-
-fn say_reports(out: &mut Out, reports: usize, pool: usize) -> io::Result<()> {
-    show::text(out, b", report numbers")?;
-    show::number(out, reports as u64)?;
-    show::text(out, b", pool numbers")?;
-    show::number(out, pool as u64)
-}
-
-// So many numbers more, from 0 on and after 255 from 0 again.
-fn pushed(p: Parser, n: usize) -> Parser {
-    let mut q = p;
-    let mut i: usize = 0;
-    while i < n {
-        let code = (i % 256) as u8;
-        q = q.add_expected(code);
-        i += 1;
-    }
-    q
-}
-
-// So many numbers pushed after a token: how many are pending, and how many of them are different.
+// So many numbers pushed after a token, from 0 on and after 255 from 0 again: how many are pending, and how many of
+// them are different.
 fn expectations(out: &mut Out, n: usize) -> io::Result<()> {
-    let mut events = [0u32; 3];
-    let taken = Parser::new().bump(&TOKENS, &mut events);
-    let p = pushed(taken, n);
-    show::text(out, b"numbers pushed")?;
-    show::number(out, n as u64)?;
-    show::text(out, b", pending")?;
-    show::number(out, p.s.pending.count as u64)?;
-    show::text(out, b", different")?;
+    let taken = Parser::new().bump(&TOKENS, &mut [0; 3]);
+    let p = (0..n).fold(taken, |p, i| p.add_expected((i % 256) as u8));
+    let pending = p.s.pending.count;
     let different = p.s.pending.different();
-    show::number(out, different as u64)?;
+    write!(
+        out,
+        "numbers pushed {n}, pending {pending}, different {different}"
+    )?;
     say(out, p.s)
 }
 
 // A marker and a token: two events, of three numbers each.
 fn marker_and_token(out: &mut Out, events: &mut [u32]) -> io::Result<()> {
-    let started = Parser::new().start(events);
-    let p = started.bump(&TOKENS, events);
-    say_events(out, events.len())?;
+    let p = Parser::new().start(events).bump(&TOKENS, events);
+    write!(out, "event numbers {}", events.len())?;
     say(out, p.s)
 }
 
@@ -79,51 +47,27 @@ fn token_and_report(
     let taken = Parser::new().bump(&TOKENS, events);
     let m = Matcher::Either(token_kind::EQUALS, token_kind::LCURLY);
     let e = taken.expect(&TOKENS, events, reports, pool, m);
-    say_events(out, events.len())?;
-    say_reports(out, reports.len(), pool.len())?;
+    write!(out, "event numbers {}", events.len())?;
+    write!(out, ", report numbers {}", reports.len())?;
+    write!(out, ", pool numbers {}", pool.len())?;
     say(out, e.p.s)
-}
-
-// On so many numbers, at most 6.
-fn events_on(out: &mut Out, n: usize) -> io::Result<()> {
-    let mut events = [0u32; 6];
-    let e = least(n, 6);
-    marker_and_token(out, &mut events[..e])
-}
-
-// On so many numbers, at most 6, 9 and 2.
-fn report_on(
-    out: &mut Out,
-    event_numbers: usize,
-    report_numbers: usize,
-    codes: usize,
-) -> io::Result<()> {
-    let mut events = [0u32; 6];
-    let mut reports = [0u32; 9];
-    let mut pool = [0u32; 2];
-    let e = least(event_numbers, 6);
-    let r = least(report_numbers, 9);
-    let c = least(codes, 2);
-    token_and_report(out, &mut events[..e], &mut reports[..r], &mut pool[..c])
 }
 
 fn main(rt: HostRuntime) -> io::Result<()> {
     let mut out = BufWriter::new(rt.alloc(), rt.stdout())?;
     // The kinds; lexical errors and what else is no expectation; the others; every number, and every number twice.
-    expectations(&mut out, 61)?;
-    expectations(&mut out, 101)?;
-    expectations(&mut out, 109)?;
-    expectations(&mut out, 256)?;
-    expectations(&mut out, 512)?;
+    for n in [61, 101, 109, 256, 512] {
+        expectations(&mut out, n)?;
+    }
     // Both events, one number fewer, the first event alone, and one number fewer.
-    events_on(&mut out, 6)?;
-    events_on(&mut out, 5)?;
-    events_on(&mut out, 3)?;
-    events_on(&mut out, 2)?;
+    marker_and_token(&mut out, &mut [0; 6])?;
+    marker_and_token(&mut out, &mut [0; 5])?;
+    marker_and_token(&mut out, &mut [0; 3])?;
+    marker_and_token(&mut out, &mut [0; 2])?;
     // All fits; the row is too long; the pool is too short; and where neither fits, the first refusal stays.
-    report_on(&mut out, 6, 9, 2)?;
-    report_on(&mut out, 6, 8, 2)?;
-    report_on(&mut out, 6, 9, 1)?;
-    report_on(&mut out, 5, 8, 2)?;
+    token_and_report(&mut out, &mut [0; 6], &mut [0; 9], &mut [0; 2])?;
+    token_and_report(&mut out, &mut [0; 6], &mut [0; 8], &mut [0; 2])?;
+    token_and_report(&mut out, &mut [0; 6], &mut [0; 9], &mut [0; 1])?;
+    token_and_report(&mut out, &mut [0; 5], &mut [0; 8], &mut [0; 2])?;
     out.flush()
 }

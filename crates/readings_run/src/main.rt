@@ -6,57 +6,61 @@
 #![tactic(auto)]
 
 use cases::blanks;
+use cases::lend::{Buffers, Sizes};
 use cases::show::Out;
 use layout::row::TREE_ROW;
+use replay::head::Head;
+use replay::left;
+use std::alloc::Global;
 use std::io;
 use std::io::{BufWriter, Write};
 
-// A case's numbers on so many blanks: the answer, the root's row, and how many rows of one blank follow it.
-fn called(out: &mut Out, name: &[u8], head: [u32; 9]) -> io::Result<()> {
-    let bytes = blanks::bytes();
-    let tokens = blanks::tokens();
-    let mut trees = blanks::tree();
-    let number = replay::lent(out, name, head, &bytes, &tokens, &mut trees, TREE_ROW)?;
-    if number == 0 {
-        blanks::show_leaves(out, &trees)?;
+// A call on so many blanks, in buffers that are as small as they may be but for the tree's.
+fn head(token_numbers: usize, bytes: usize, entry: u32, trees: usize) -> Head {
+    Head {
+        token_numbers,
+        bytes,
+        entry,
+        setting: 0,
+        lent: Sizes {
+            events: 3,
+            trees,
+            errors: 3,
+            reports: 9,
+            pool: 1,
+        },
+    }
+}
+
+// The answer, the root's row, and how many rows of one blank follow it.
+fn called(alloc: Global, out: &mut Out, name: &str, head: Head) -> io::Result<()> {
+    let bytes = blanks::bytes(alloc, head.bytes)?;
+    let tokens = blanks::tokens(alloc, head.token_numbers)?;
+    let mut lent = Buffers::new(alloc, head.lent)?;
+    let answer = head.call(&bytes, &tokens, &mut lent);
+    left::show(out, name.as_bytes(), answer, TREE_ROW, &lent)?;
+    if answer.number == 0 {
+        writeln!(out, "blanks {}", blanks::leaves(&lent.trees))?;
     }
     Ok(())
 }
 
 fn main(rt: HostRuntime) -> io::Result<()> {
-    let mut out = BufWriter::new(rt.alloc(), rt.stdout())?;
-    replay::run(&mut rt.stdin(), &mut out)?;
+    let alloc = rt.alloc();
+    let mut out = BufWriter::new(alloc, rt.stdout())?;
+    replay::run(alloc, rt.stdin(), &mut out)?;
     // A tree of 65,537 rows just fits; one number fewer does not do.
-    let tree = blanks::TREE as u32;
-    called(
-        &mut out,
-        b"65536-blanks",
-        [131072, 65536, 1, 0, 3, tree, 3, 9, 1],
-    )?;
-    called(
-        &mut out,
-        b"65536-blanks-small-tree",
-        [131072, 65536, 1, 0, 3, tree - 1, 3, 9, 1],
-    )?;
-    called(
-        &mut out,
-        b"65537-blanks",
-        [131074, 65537, 1, 0, 3, tree, 3, 9, 1],
-    )?;
-    called(
-        &mut out,
-        b"65537-blanks-entry-5",
-        [131074, 65537, 5, 0, 3, tree, 3, 9, 1],
-    )?;
-    called(
-        &mut out,
-        b"65535-blanks-and-a-number",
-        [131071, 65536, 1, 0, 3, tree, 3, 9, 1],
-    )?;
-    called(
-        &mut out,
-        b"65536-blanks-and-a-number",
-        [131073, 65537, 1, 0, 3, tree, 3, 9, 1],
-    )?;
+    let tree = blanks::TREE;
+    let calls = [
+        ("65536-blanks", head(131072, 65536, 1, tree)),
+        ("65536-blanks-small-tree", head(131072, 65536, 1, tree - 1)),
+        ("65537-blanks", head(131074, 65537, 1, tree)),
+        ("65537-blanks-entry-5", head(131074, 65537, 5, tree)),
+        ("65535-blanks-and-a-number", head(131071, 65536, 1, tree)),
+        ("65536-blanks-and-a-number", head(131073, 65537, 1, tree)),
+    ];
+    for (name, head) in calls {
+        called(alloc, &mut out, name, head)?;
+    }
     out.flush()
 }

@@ -8,6 +8,6 @@ use std::io::{BufWriter, Write};
 
 fn main(rt: HostRuntime) -> io::Result<()> {
     let mut out = BufWriter::new(rt.alloc(), rt.stdout())?;
-    replay::run(&mut rt.stdin(), &mut out)?;
+    replay::run(rt.alloc(), rt.stdin(), &mut out)?;
     out.flush()
 }

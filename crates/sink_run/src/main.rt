@@ -7,85 +7,51 @@
 mod deep;
 mod print;
 
-ghost use Rattle.std.specs.Prelude.{◌≤◌, length, IfOk};
+ghost use Rattle.cases.specs.Scanner.{ReadsOn};
 
-use cases::scan::at_most;
+use cases::list::each_case;
+use cases::read;
+use cases::scan::Scanner;
 use cases::show::Out;
-use cases::{read, scan};
+use std::alloc::Global;
 use std::io;
 use std::io::{BufWriter, Write};
 
-fn sunk(
-    out: &mut Out,
-    name: &[u8],
-    kind: u32,
-    tokens: &[u32],
-    events: &[u32],
-    trees: &mut [u32],
-    errors: &mut [u32],
-) -> io::Result<()> {
-    let a = sink::finish(kind, tokens, events, trees, errors);
-    print::answer(out, name, a)?;
-    print::tree(out, trees, 0, trees.len())?;
-    print::errors(out, errors)
-}
+// No list is longer, and no case has more numbers of a tree, of errors, tokens and events.
+const MOST: u64 = 4096;
 
-// One case, on so many numbers of buffers full of sevens.
-fn sized(
-    out: &mut Out,
-    name: &[u8],
-    sizes: [u32; 5],
-    tokens: &[u32],
-    events: &[u32],
-) -> io::Result<()> {
-    let mut trees = [7u32; 80];
-    let mut errors = [7u32; 8];
-    let r = at_most(sizes[1], 80);
-    let l = at_most(sizes[2], 8);
-    let t = at_most(sizes[3], tokens.len());
-    let e = at_most(sizes[4], events.len());
-    sunk(
-        out,
-        name,
-        sizes[0],
-        &tokens[..t],
-        &events[..e],
-        &mut trees[..r],
-        &mut errors[..l],
-    )
-}
+const TREES: usize = 80;
 
-// One case. Answers where its line ends.
-fn case(out: &mut Out, text: &[u8], from: usize) -> io::Result<usize>
-    requires { from ≤ length text.now }
-    ensures lower_bound { IfOk result (λ end. from ≤ end) }
-    ensures upper_bound { IfOk result (λ end. end ≤ length text.now) }
+const ERRORS: usize = 8;
+
+const TOKENS: usize = 64;
+
+const EVENTS: usize = 192;
+
+// One case, on buffers full of sevens.
+fn case(alloc: Global, out: &mut Out, scanner: &mut Scanner<'_>) -> io::Result<()>
+    ensures { ReadsOn scanner.old scanner.new }
 {
-    let mut sizes = [0u32; 5];
-    let mut tokens = [0u32; 64];
-    let mut events = [0u32; 192];
-    let name_end = scan::find(text, from, b'|');
-    let sizes_end = scan::numbers(text, name_end, 5, &mut sizes);
-    let tokens_end = scan::numbers(text, sizes_end, sizes[3], &mut tokens);
-    let events_end = scan::numbers(text, tokens_end, sizes[4], &mut events);
-    sized(out, &text[from..name_end], sizes, &tokens, &events)?;
-    Ok(scan::find(text, events_end, b'\n'))
-}
-
-fn cases(out: &mut Out, text: &[u8]) -> io::Result<()> {
-    let mut byte: usize = 0;
-    while byte < text.len() {
-        let end = case(out, text, byte)?;
-        byte = end + 1;
-    }
-    Ok(())
+    let name = scanner.until(b'|');
+    let kind = scanner.number();
+    let mut trees = vec![in alloc; 7; scanner.number_at_most(TREES)]?;
+    let mut errors = vec![in alloc; 7; scanner.number_at_most(ERRORS)]?;
+    let token_numbers = scanner.number_at_most(TOKENS);
+    let event_numbers = scanner.number_at_most(EVENTS);
+    let tokens = scanner.numbers(alloc, token_numbers)?;
+    let events = scanner.numbers(alloc, event_numbers)?;
+    scanner.until(b'\n');
+    let a = sink::finish(kind, &tokens, &events, &mut trees, &mut errors);
+    print::answer(out, name, a)?;
+    print::tree(out, &trees)?;
+    print::errors(out, &errors)
 }
 
 fn main(rt: HostRuntime) -> io::Result<()> {
-    let mut out = BufWriter::new(rt.alloc(), rt.stdout())?;
-    let mut text = [0u8; 4096];
-    let n = read::full(&mut rt.stdin(), &mut text)?;
-    cases(&mut out, &text[..n])?;
-    deep::run(&mut out)?;
+    let alloc = rt.alloc();
+    let mut out = BufWriter::new(alloc, rt.stdout())?;
+    let list = read::at_most(alloc, rt.stdin(), MOST)?;
+    each_case(&list, |scanner| case(alloc, &mut out, scanner))?;
+    deep::run(alloc, &mut out)?;
     out.flush()
 }

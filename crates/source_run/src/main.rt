@@ -5,8 +5,7 @@
 // Unrecognized, 25.
 #![tactic(auto)]
 
-use cases::show;
-use cases::show::{Out, number};
+use cases::show::Out;
 use layout::TokenIndex;
 use layout::row::TOKEN_ROW;
 use parser::event::PAST_THE_END;
@@ -16,49 +15,38 @@ use std::io::{BufWriter, Write};
 
 fn seen_from(out: &mut Out, tokens: &[u32], at: usize) -> io::Result<()> {
     let s = look(tokens, TokenIndex(at));
-    number(out, at as u64)?;
-    number(out, s.immediate as u64)?;
-    number(out, s.kind as u64)?;
-    number(out, s.next.0 as u64)?;
-    show::line_end(out)
-}
-
-fn seen_up_to(out: &mut Out, tokens: &[u32], n: usize) -> io::Result<()> {
-    let mut i: usize = 0;
-    while i < n {
-        seen_from(out, tokens, i)?;
-        i += 1;
-    }
-    Ok(())
+    writeln!(out, " {at} {} {} {}", s.immediate, s.kind, s.next.0)
 }
 
 // From every token index, the end included.
-fn along(out: &mut Out, name: &[u8], tokens: &[u32]) -> io::Result<()> {
-    show::text(out, name)?;
-    show::line_end(out)?;
-    seen_up_to(out, tokens, tokens.len() / TOKEN_ROW + 1)
+fn along(out: &mut Out, name: &str, tokens: &[u32]) -> io::Result<()> {
+    writeln!(out, "{name}")?;
+    for at in 0..=tokens.len() / TOKEN_ROW {
+        seen_from(out, tokens, at)?;
+    }
+    Ok(())
 }
 
 fn texts(out: &mut Out) -> io::Result<()> {
     // At index 1 the test for a colon sees the AtSign, 32, past the blank: no report. An immediate one sees the blank.
     along(
         out,
-        b"a @1 {};",
+        "a @1 {};",
         &[27, 1, 0, 1, 32, 1, 35, 1, 0, 1, 37, 1, 38, 1, 29, 1],
     )?;
     // Comments and blanks, and an error token, 74, between them and a Semicolon, 29.
     along(
         out,
-        b"/* c */ // l\\n\\ ;",
+        "/* c */ // l\\n\\ ;",
         &[1, 7, 0, 1, 3, 4, 0, 1, 74, 1, 0, 1, 29, 1],
     )
 }
 
 fn edges(out: &mut Out) -> io::Result<()> {
     // The first error token and the last; trivia alone; no row; and the cursor of a parser that has refused.
-    along(out, b"error tokens", &[64, 1, 0, 1, 74, 1])?;
-    along(out, b"trivia", &[0, 1, 1, 4, 3, 2])?;
-    along(out, b"nothing", &[])?;
+    along(out, "error tokens", &[64, 1, 0, 1, 74, 1])?;
+    along(out, "trivia", &[0, 1, 1, 4, 3, 2])?;
+    along(out, "nothing", &[])?;
     seen_from(out, &[27, 1], PAST_THE_END)
 }
 

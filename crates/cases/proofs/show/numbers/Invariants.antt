@@ -1,6 +1,0 @@
--- The index goes up to the end.
-use Rattle.std.proofs.Common.{◌-◌}
-use Rattle.cases.proofs.show.numbers.Given as goal
-
-abbrev pub decreases-loop-i : goal.decreases-loop-i
-decreases-loop-i l = l.to - l.i

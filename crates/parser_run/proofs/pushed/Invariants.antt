@@ -1,6 +1,0 @@
--- The index goes up to the count.
-use Rattle.std.proofs.Common.{◌-◌}
-use Rattle.parser_run.proofs.pushed.Given as goal
-
-abbrev pub decreases-loop-i : goal.decreases-loop-i
-decreases-loop-i l = l.n - l.i
