@@ -1,1 +1,3 @@
+-- What the contracts over kinds, numbers and lent buffers cite.
 pub mod Numbers
+pub mod Rows

@@ -13,6 +13,7 @@ pub mod node_kind;
 pub mod refusal;
 pub mod row;
 pub mod row_kind;
+pub mod rows;
 pub mod set;
 pub mod setting;
 pub mod token_kind;

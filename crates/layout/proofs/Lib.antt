@@ -1,0 +1,2 @@
+-- What the proofs here, and those of the crates above, share.
+pub mod Room
