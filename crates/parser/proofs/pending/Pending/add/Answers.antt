@@ -1,0 +1,11 @@
+use Rattle.std.proofs.Common.{◌≡◌, refl, sym, ◌∙◌, ap, ℕ, ◌≤◌, List, [], ◌∷◌}
+use Rattle.parser.proofs.Moves.{adds_kind, adds_other}
+use Rattle.parser.proofs.pending.Pending.add.Goals as goal
+
+pub returns-then-code-lt-KIND_CODES : goal.returns-then-code-lt-KIND_CODES
+returns-then-code-lt-KIND_CODES c = rw (← c.number-code.ensures) (c.add_kind.ensures ∙ adds_kind _ _ c.if-code-lt-KIND_CODES.true)
+
+pub returns-then-code-lt-PAST_OTHERS : goal.returns-then-code-lt-PAST_OTHERS
+returns-then-code-lt-PAST_OTHERS c =
+    rw (← c.number-code.ensures)
+    (c.add_other.ensures ∙ adds_other _ _ c.if-code-lt-KIND_CODES.false c.if-code-ge-FIRST_OTHER.true c.if-code-lt-PAST_OTHERS.true)
