@@ -13,7 +13,7 @@ use Rattle.definitions.specs.Prog.{Ans, yes, no, choose, Act, Rule, act, silent_
 use Rattle.definitions.specs.Run.{truth}
 use Rattle.definitions.specs.Check.{tell}
 use Rattle.definitions.specs.Grammar.{silent_at_macro_invocation_with_args}
-use Rattle.machine.specs.Machine.{Machine, Pending, with_taken, with_pending, took, range_at, expect_kind, expect_other}
+use Rattle.machine.specs.Machine.{Machine, Pending, with_taken, took, range_at, expect_kind, expect_other}
 use Rattle.machine.specs.Machine as M
 use Rattle.machine.specs.Walk.{Walked, said, perform, walk}
 use Rattle.basics.proofs.TokenRows.{token_at, tokens_cons, tokens_end}

@@ -1,4 +1,4 @@
-use Rattle.std.proofs.Common.{◌≡◌, ◌∙◌, ap, ℕ}
+use Rattle.std.proofs.Common.{◌∙◌, ap}
 use Rattle.basics.specs.Word.{low}
 use Rattle.parser.proofs.Moves.{walks_name, walks_name_past}
 use Rattle.parser.proofs.Parser.bump_name.Goals as goal

@@ -1,4 +1,4 @@
-use Rattle.std.proofs.Common.{◌≡◌, refl, sym, ◌∙◌, ap, ℕ, ◌≤◌, List, [], ◌∷◌}
+use Rattle.std.proofs.Common.{◌∙◌}
 use Rattle.token_rows.proofs.Seen.{is_one_of_rows, first_past_rows}
 use Rattle.parser.specs.View.{kinds_of}
 use Rattle.parser.proofs.Moves.{some_left, none_left}

@@ -1,4 +1,4 @@
-use Rattle.std.proofs.Common.{◌≡◌, refl, ◌∙◌, ap, ◌+◌}
+use Rattle.std.proofs.Common.{refl, ◌∙◌, ap, ◌+◌}
 use Rattle.basics.proofs.Flags.{flags}
 use Rattle.machine.specs.Machine.{Pending, with_pending, with_taken}
 use Rattle.parser.specs.View.{view, tokens_left}

@@ -1,4 +1,4 @@
-use Rattle.std.proofs.Common.{◌≡◌, refl, sym, ◌∙◌, ap, ℕ, ◌≤◌, List, [], ◌∷◌}
+use Rattle.std.proofs.Common.{refl}
 use Rattle.basics.proofs.Flags.{flags}
 use Rattle.machine.specs.Machine as M
 use Rattle.parser.specs.View.{view, tokens_left}

@@ -1,4 +1,4 @@
-use Rattle.std.proofs.Common.{◌≡◌, refl, sym, ◌∙◌, ap, ℕ, ◌≤◌, List, [], ◌∷◌}
+use Rattle.std.proofs.Common.{refl}
 use Rattle.parser.specs.View.{view}
 use Rattle.parser.proofs.Moves.{range_rows}
 use Rattle.parser.proofs.Parser.range.Goals as goal

@@ -10,11 +10,14 @@ unfolding tokens_left
 returns c =
     let q = quiet c.args.self.now.refused c.is_none.result c.is_none.ensures in
     elim c.if-is_none.branch [
-        then-is_none w ↦ record {
-            is = rw (w.self-is) (refuse_first _ (view c.args.self.now) (q ∙ w.if-is_none.true));
-            same = rw (w.self-is) (record { tokens = refl; events = refl; reports = refl; pool = refl });
-            left = rw (w.self-is) (omega flags) }
+      | then-is_none w ↦ record {
+        is = rw (w.self-is) (refuse_first _ (view c.args.self.now) (q ∙ w.if-is_none.true));
+        same = rw (w.self-is) (record { tokens = refl; events = refl; reports = refl; pool = refl });
+        left = rw (w.self-is) (omega flags);
+      }
       | else-is_none w ↦ record {
-            is = rw (w.self-is) (refuse_again _ (view c.args.self.now) (q ∙ w.if-is_none.false));
-            same = rw (w.self-is) (record { tokens = refl; events = refl; reports = refl; pool = refl });
-            left = rw (w.self-is) (omega flags) } ]
+        is = rw (w.self-is) (refuse_again _ (view c.args.self.now) (q ∙ w.if-is_none.false));
+        same = rw (w.self-is) (record { tokens = refl; events = refl; reports = refl; pool = refl });
+        left = rw (w.self-is) (omega flags);
+      }
+    ]

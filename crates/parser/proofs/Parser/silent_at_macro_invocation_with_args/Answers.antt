@@ -1,4 +1,4 @@
-use Rattle.std.proofs.Common.{◌≡◌, refl, sym, ◌∙◌, ap, ℕ, ◌≤◌, List, [], ◌∷◌}
+use Rattle.std.proofs.Common.{◌∙◌, ap, ℕ, [], ◌∷◌}
 use Rattle.definitions.specs.Token.{first_in, past}
 use Rattle.parser.specs.View.{rest}
 use Rattle.parser.proofs.Moves.{walks_macro_yes, walks_macro_no}

@@ -1,11 +1,8 @@
-use Rattle.std.proofs.Common.{◌≡◌, refl, sym, ◌∙◌, le_refl}
+use Rattle.std.proofs.Common.{sym, ◌∙◌}
 use Rattle.basics.proofs.Flags.{flags}
-use Rattle.parser.specs.View.{view, rest, tokens_left}
+use Rattle.parser.specs.View.{view, rest}
 use Rattle.parser.proofs.Moves.{stretch_more, name_done, in_rows}
 use Rattle.parser.proofs.Parser.take_while.Goals as goal
-
-pub loop-self-init : goal.loop-self-init
-loop-self-init c = record { is = refl; same = record { tokens = refl; events = refl; reports = refl; pool = refl }; left = le_refl _ }
 
 pub loop-self-smaller : goal.loop-self-smaller
 loop-self-smaller c = let h = in_rows c.loop-self.self (c.is_one_of_at.ensures.at_in_bounds c.loop-self-test.true) in omega (flags, h, c.next_token.ensures.taken)

@@ -1,4 +1,4 @@
-use Rattle.std.proofs.Common.{◌≡◌, refl, sym, ◌∙◌, ap, ℕ, ◌≤◌, List, [], ◌∷◌}
+use Rattle.std.proofs.Common.{sym, ◌∙◌}
 use Rattle.basics.proofs.Tests.{eqb_swap}
 use Rattle.token_rows.proofs.Seen.{one_of_one}
 use Rattle.parser.proofs.Moves.{any_one_of, first_is, second_is}

@@ -1,4 +1,4 @@
-use Rattle.std.proofs.Common.{◌≡◌, refl, sym, ◌∙◌, ap, ℕ, ◌≤◌, List, [], ◌∷◌}
+use Rattle.std.proofs.Common.{◌∙◌}
 use Rattle.parser.proofs.Moves.{adds_kind, adds_other}
 use Rattle.parser.proofs.pending.Pending.add.Goals as goal
 
