@@ -1,5 +1,5 @@
 -- What each step of the literal machine comes to: expectations, the cursor's moves, tests, tokens and names taken.
-use Rattle.std.proofs.Common.{ℕ, ◌+◌, ◌-◌, ◌/◌, ◌≤◌, ◌<◌, ◌≡◌, refl, sym, ◌∙◌, ap, Bool, true, false, cond, not, ◌||◌, List, [], ◌∷◌, length, drop, eqb, ltb, leb, Bor}
+use Rattle.std.proofs.Common.{ℕ, ◌+◌, ◌-◌, ◌/◌, ◌≤◌, ◌<◌, ◌≡◌, refl, sym, ◌∙◌, ap, Bool, true, false, cond, not, ◌||◌, le_refl, List, [], ◌∷◌, length, drop, eqb, ltb, leb}
 use Rattle.std.specs.List.{list_any}
 use Rattle.std.proofs.lemmas.Bool.{lt-ltb, le-ltb, le-leb, eq-eqb, ne_eqb}
 use Rattle.basics.proofs.Tests.{eqb_swap}
@@ -7,19 +7,17 @@ use native.Mathlib.Omega.{arith}
 use Rattle.basics.specs.Word.{low}
 use Rattle.definitions.specs.Layout.{TOKEN_ROW, ADD_TOKEN, ADD_COMBINED_TOKEN, KIND_CODES, FIRST_OTHER, OTHER_CODES}
 use Rattle.definitions.specs.Token.{Token, tokens_of, ended, one_of, first_in, seen, past}
-use Rattle.definitions.specs.TokenKind as K
 use Rattle.definitions.specs.Skeleton.{Span}
-use Rattle.definitions.specs.Prog.{Ans, yes, no, choose, Act, Rule, act, silent_at, at_end, bump, bump_name, immediate_next}
+use Rattle.definitions.specs.Prog.{yes, Act, act, silent_at, at_end, bump, bump_name, immediate_next}
 use Rattle.definitions.specs.Run.{truth}
-use Rattle.definitions.specs.Check.{tell}
-use Rattle.definitions.specs.Grammar.{silent_at_macro_invocation_with_args}
 use Rattle.machine.specs.Machine.{Machine, Pending, with_taken, took, range_at, expect_kind, expect_other}
 use Rattle.machine.specs.Machine as M
-use Rattle.machine.specs.Walk.{Walked, said, perform, walk}
+use Rattle.machine.specs.Walk.{Walked, said, perform}
 use Rattle.basics.proofs.TokenRows.{token_at, tokens_cons, tokens_end}
 use Rattle.token_rows.proofs.Seen.{end_row, one_of_one}
 use Rattle.parser.specs.View.{view, toks, rest, tokens_left, take_first, Same, Becomes, Walks}
 use Rattle.parser.specs.declared.Parser.{Parser}
+use Rattle.parser.proofs.Ways.{acts, same_self, same_then, same_toks}
 
 -- ---------------------------------------------------------------- membership
 
@@ -71,10 +69,10 @@ unfolding range_at
 range_rows [] m e f = ap (λ (x : ℕ). record { from = m.byte; to = x }) f
 range_rows (t ∷ l) m e f = ap (λ (x : ℕ). record { from = m.byte; to = x }) f
 
-pub ended_in : (tokens : List ℕ) (i : ℕ) → i < length tokens / TOKEN_ROW → false ≡ ended (drop i (tokens_of tokens))
+ended_in : (tokens : List ℕ) (i : ℕ) → i < length tokens / TOKEN_ROW → false ≡ ended (drop i (tokens_of tokens))
 ended_in tokens i h = sym (ap ended (tokens_cons tokens i h))
 
-pub ended_past : (tokens : List ℕ) (i : ℕ) → length tokens / TOKEN_ROW ≤ i → true ≡ ended (drop i (tokens_of tokens))
+ended_past : (tokens : List ℕ) (i : ℕ) → length tokens / TOKEN_ROW ≤ i → true ≡ ended (drop i (tokens_of tokens))
 ended_past tokens i h = sym (ap ended (tokens_end tokens i h))
 
 -- what is left tells whether there is a token
@@ -106,14 +104,7 @@ pub took_nothing : (tokens : List ℕ) (m : Machine) → length tokens / TOKEN_R
 unfolding take_first
 took_nothing tokens m h = sym (ap (λ (l : List Token). take_first l m) (tokens_end tokens m.cursor h))
 
--- ---------------------------------------------------------------- one action, and the parser after it
-
-pub same_then : (p q r : Parser) → Same p q → Same q r → Same p r
-same_then p q r e f = record { tokens = f.tokens ∙ e.tokens; events = f.events ∙ e.events; reports = f.reports ∙ e.reports; pool = f.pool ∙ e.pool }
-
-pub performed : (a : Act) (x : Ans) (p q : Parser) → ((b : Span) → said x (view q) ≡ perform (toks p) b a (view p)) → Same p q → tokens_left q ≤ tokens_left p → Walks (act a) p x q
-unfolding walk
-performed a x p q f s l = record { way = λ ask b. record { is = f b; same = s; left = l }; same = s; left = l }
+-- ---------------------------------------------------------------- tests
 
 silent_is : (ts : List Token) (b : Span) (ks : List ℕ) (m p : Machine) (y : Bool) → p ≡ M.peek ts m → y ≡ first_in ks (drop p.cursor ts) → said (truth y) p ≡ perform ts b (silent_at ks) m
 unfolding perform
@@ -126,46 +117,16 @@ at_end_is ts b m p y e f = ap (λ (z : Bool). said (truth z) p) f ∙ ap (λ (x 
 -- q: after the peek
 pub walks_silent : (ks : List ℕ) (y : Bool) (p q : Parser) → Becomes (M.peek (toks p)) p q → y ≡ first_in ks (rest q) → Walks (act (silent_at ks)) p (truth y) q
 walks_silent ks y p q e f =
-    let g : y ≡ first_in ks (drop q.cursor.0 (toks p)) = f ∙ ap (λ (t : Bor (List ℕ)). first_in ks (drop q.cursor.0 (tokens_of t.now))) e.same.tokens in
-    performed (silent_at ks) (truth y) p q (λ b. silent_is (toks p) b ks (view p) (view q) y e.is g) e.same e.left
+    acts (λ b. silent_is (toks p) b ks (view p) (view q) y e.is (f ∙ ap (λ (l : List Token). first_in ks (drop q.cursor.0 l)) (same_toks e.same))) e.same e.left
 
 pub walks_end : (y : Bool) (p q : Parser) → Becomes (M.peek (toks p)) p q → y ≡ ended (rest q) → Walks (act at_end) p (truth y) q
 walks_end y p q e f =
-    let g : y ≡ ended (drop q.cursor.0 (toks p)) = f ∙ ap (λ (t : Bor (List ℕ)). ended (drop q.cursor.0 (tokens_of t.now))) e.same.tokens in
-    performed at_end (truth y) p q (λ b. at_end_is (toks p) b (view p) (view q) y e.is g) e.same e.left
+    acts (λ b. at_end_is (toks p) b (view p) (view q) y e.is (f ∙ ap (λ (l : List Token). ended (drop q.cursor.0 l)) (same_toks e.same))) e.same e.left
 
--- ---------------------------------------------------------------- a call of a macro with arguments
-
-module _ (ask : Rule → Machine → Walked) (ts : List Token) (b : Span) where
-  abbrev chosen : Walked → Walked
-  chosen x = choose x.ans (walk ask ts b (tell no)) (walk ask ts b (act (immediate_next K.LParen))) (walk ask ts b (act (immediate_next K.LParen))) x.on
-
-  pub macro_args_yes : (m p : Machine) (y : Bool) → said yes p ≡ walk ask ts b (act (silent_at (K.Ident ∷ []))) m → y ≡ first_in (K.LParen ∷ []) (past (drop p.cursor ts))
-      → said (truth y) p ≡ walk ask ts b silent_at_macro_invocation_with_args m
-  unfolding walk perform choose silent_at_macro_invocation_with_args
-  macro_args_yes m p y e f = ap (λ (z : Bool). said (truth z) p) f ∙ ap chosen e
-
-  pub macro_args_no : (m p : Machine) → said no p ≡ walk ask ts b (act (silent_at (K.Ident ∷ []))) m → said no p ≡ walk ask ts b silent_at_macro_invocation_with_args m
-  unfolding walk choose silent_at_macro_invocation_with_args
-  macro_args_no m p e = ap chosen e
-
-pub walks_macro_yes : (p q : Parser) (y : Bool) → Walks (act (silent_at (K.Ident ∷ []))) p yes q → y ≡ first_in (K.LParen ∷ []) (past (rest q)) → Walks silent_at_macro_invocation_with_args p (truth y) q
-walks_macro_yes p q y e f =
-    let g : y ≡ first_in (K.LParen ∷ []) (past (drop q.cursor.0 (toks p))) =
-    f ∙ ap (λ (t : Bor (List ℕ)). first_in (K.LParen ∷ []) (past (drop q.cursor.0 (tokens_of t.now)))) e.same.tokens in
-    record {
-      way = λ ask b. record { is = macro_args_yes (ask (toks p)) (toks p) b (view p) (view q) y ((e.way ask b).is) g; same = e.same; left = e.left };
-      same = e.same;
-      left = e.left;
-    }
-
-pub walks_macro_no : (p q : Parser) → Walks (act (silent_at (K.Ident ∷ []))) p no q → Walks silent_at_macro_invocation_with_args p no q
-walks_macro_no p q e =
-    record {
-      way = λ ask b. record { is = macro_args_no (ask (toks p)) (toks p) b (view p) (view q) ((e.way ask b).is); same = e.same; left = e.left };
-      same = e.same;
-      left = e.left;
-    }
+-- the row after the one at the cursor
+pub walks_next : (k : ℕ) (y : Bool) (p : Parser) → y ≡ first_in (k ∷ []) (past (rest p)) → Walks (act (immediate_next k)) p (truth y) p
+unfolding perform
+walks_next k y p e = acts (λ b. ap (λ (z : Bool). said (truth z) (view p)) e) same_self (le_refl _)
 
 -- ---------------------------------------------------------------- tokens taken
 
@@ -207,7 +168,7 @@ module _ (tokens : List ℕ) (b : Span) (m p : Machine) (e : p ≡ M.peek (token
       ∙ ap (λ (y : Machine). said yes (M.name_first ks (drop y.cursor ts) y)) e
 
 -- one more row of a name, or none
-pub name_more : (tokens ks : List ℕ) (m q : Machine) → m.cursor < length tokens / TOKEN_ROW → first_in ks (drop m.cursor (tokens_of tokens)) ≡ true → q ≡ take_first (drop m.cursor (tokens_of tokens)) m
+name_more : (tokens ks : List ℕ) (m q : Machine) → m.cursor < length tokens / TOKEN_ROW → first_in ks (drop m.cursor (tokens_of tokens)) ≡ true → q ≡ take_first (drop m.cursor (tokens_of tokens)) m
     → M.name_stretch ks (drop q.cursor (tokens_of tokens)) q ≡ M.name_stretch ks (drop m.cursor (tokens_of tokens)) m
 unfolding M.name_stretch take_first first_in
 name_more tokens ks m q h f g =
@@ -226,32 +187,30 @@ name_done ks (t ∷ ts) m f = sym (ap (λ (z : Bool). cond z (M.name_stretch ks 
 -- q: after the peek
 module _ (p q : Parser) (e : Becomes (M.peek (toks p)) p q) where
   seated : view q ≡ M.peek (toks q) (view p)
-  seated = e.is ∙ ap (λ (t : Bor (List ℕ)). M.peek (tokens_of t.now) (view p)) (sym e.same.tokens)
+  seated = e.is ∙ ap (λ (l : List Token). M.peek l (view p)) (sym (same_toks e.same))
 
   of_p : (a : Act) (b : Span) (w : Walked) → w ≡ perform (toks q) b a (view p) → w ≡ perform (toks p) b a (view p)
-  of_p a b w f = f ∙ ap (λ (t : Bor (List ℕ)). perform (tokens_of t.now) b a (view p)) e.same.tokens
+  of_p a b w f = f ∙ ap (λ (l : List Token). perform l b a (view p)) (same_toks e.same)
 
   -- r: after the token, s: after its event
   pub walks_bump : (r s : Parser) → 0 < tokens_left q → Becomes (take_first (rest q)) q r → Becomes (M.push ADD_TOKEN 0) r s → Walks (act bump) p yes s
   walks_bump r s h f g =
-      performed bump yes p s (λ b. of_p bump b _ (bump_in q.tokens.now b (view p) (view q) seated (view r) (view s) (some_left q h) f.is g.is))
-      (same_then p r s (same_then p q r e.same f.same) g.same) (omega (arith, e.left, f.left, g.left))
+      acts (λ b. of_p bump b _ (bump_in q.tokens.now b (view p) (view q) seated (view r) (view s) (some_left q h) f.is g.is))
+      (same_then (same_then e.same f.same) g.same) (omega (arith, e.left, f.left, g.left))
 
   pub walks_bump_past : tokens_left q ≡ 0 → Walks (act bump) p yes q
-  walks_bump_past h = performed bump yes p q (λ b. of_p bump b _ (bump_past q.tokens.now b (view p) (view q) seated (none_left q h))) e.same e.left
+  walks_bump_past h = acts (λ b. of_p bump b _ (bump_past q.tokens.now b (view p) (view q) seated (none_left q h))) e.same e.left
 
   -- s: after the stretch of n raw tokens, u: after its event
   pub walks_name : (ks : List ℕ) (n : ℕ) (r s u : Parser) → 0 < tokens_left q → Becomes (take_first (rest q)) q r → Becomes (M.name_stretch ks (rest r)) r s → n ≡ low (s.cursor.0 - q.cursor.0)
       → Becomes (M.push ADD_COMBINED_TOKEN n) s u → Walks (act (bump_name ks)) p yes u
   walks_name ks n r s u h f g i j =
-      let k : view s ≡ M.name_stretch ks (drop r.cursor.0 (toks q)) (view r) =
-      g.is ∙ ap (λ (t : Bor (List ℕ)). M.name_stretch ks (drop r.cursor.0 (tokens_of t.now)) (view r)) f.same.tokens in
-      performed (bump_name ks) yes p u (λ b. of_p (bump_name ks) b _ (name_in q.tokens.now b (view p) (view q) seated ks (view r) (view s) (view u) n (some_left q h) f.is k i j.is))
-      (same_then p s u (same_then p r s (same_then p q r e.same f.same) g.same) j.same) (omega (arith, e.left, f.left, g.left, j.left))
+      let k : view s ≡ M.name_stretch ks (drop r.cursor.0 (toks q)) (view r) = g.is ∙ ap (λ (l : List Token). M.name_stretch ks (drop r.cursor.0 l) (view r)) (same_toks f.same) in
+      acts (λ b. of_p (bump_name ks) b _ (name_in q.tokens.now b (view p) (view q) seated ks (view r) (view s) (view u) n (some_left q h) f.is k i j.is))
+      (same_then (same_then (same_then e.same f.same) g.same) j.same) (omega (arith, e.left, f.left, g.left, j.left))
 
   pub walks_name_past : (ks : List ℕ) → tokens_left q ≡ 0 → Walks (act (bump_name ks)) p yes q
-  walks_name_past ks h =
-      performed (bump_name ks) yes p q (λ b. of_p (bump_name ks) b _ (name_past q.tokens.now b (view p) (view q) seated ks (none_left q h))) e.same e.left
+  walks_name_past ks h = acts (λ b. of_p (bump_name ks) b _ (name_past q.tokens.now b (view p) (view q) seated ks (none_left q h))) e.same e.left
 
 -- so far in a name's stretch: the rest of it from q is the rest of it from p
 pub record Stretch (ks : List ℕ) (p q : Parser) : Type 0 where
@@ -263,7 +222,7 @@ pub record Stretch (ks : List ℕ) (p q : Parser) : Type 0 where
 pub stretch_more : (ks : List ℕ) (p q r : Parser) → Stretch ks p q → q.cursor.0 < length q.tokens.now / TOKEN_ROW → first_in ks (rest q) ≡ true → Becomes (take_first (rest q)) q r → Stretch ks p r
 stretch_more ks p q r s h f g =
     record {
-      is = ap (λ (t : Bor (List ℕ)). M.name_stretch ks (drop r.cursor.0 (tokens_of t.now)) (view r)) g.same.tokens ∙ name_more q.tokens.now ks (view q) (view r) h f g.is ∙ s.is;
-      same = same_then p q r s.same g.same;
+      is = ap (λ (l : List Token). M.name_stretch ks (drop r.cursor.0 l) (view r)) (same_toks g.same) ∙ name_more q.tokens.now ks (view q) (view r) h f g.is ∙ s.is;
+      same = same_then s.same g.same;
       left = omega (arith, s.left, g.left);
     }
