@@ -58,8 +58,8 @@ fn put_codes(pool: &mut [u32], first: usize, codes: &[u8])
     requires { first + length codes.now ≤ length pool.old }
     ensures { pool.new ≡ sets pool.old first codes.now }
 {
-    for (number, code) in pool[first..].iter_mut().zip(codes) {
-        *number = *code as u32;
+    for (i, code) in codes.iter().enumerate() {
+        pool[first + i] = *code as u32;
     }
 }
 
