@@ -1,4 +1,6 @@
 -- What the proofs of the functions share.
 pub mod Lists
 pub mod Marks
+pub mod Moves
 pub mod Reports
+pub mod Stores

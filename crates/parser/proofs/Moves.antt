@@ -1,0 +1,2 @@
+-- What each step of the literal machine comes to, in plain variables: the cursor's moves, refusals, events, tokens and
+-- names taken.
