@@ -4,3 +4,4 @@ pub mod Marks
 pub mod Moves
 pub mod Reports
 pub mod Stores
+pub mod Ways

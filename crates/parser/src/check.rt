@@ -2,10 +2,10 @@
 // pushes them even on success.
 ghost use Rattle.std.specs.Prelude.{◌≡◌, true, ◌<◌};
 ghost use Rattle.layout.specs.Numbers.{kind_number, expected_number};
-ghost use Rattle.definitions.specs.Prog.{yes, silent_at, immediate, add_expected, act, ◌⨟◌};
+ghost use Rattle.definitions.specs.Prog.{yes, immediate, add_expected, act, ◌⨟◌};
 ghost use Rattle.definitions.specs.Run.{truth};
 ghost use Rattle.definitions.specs.Check.{expected, silent_eat as silent_eat_prog, at as at_prog, eat as eat_prog, expect as expect_prog, expect_recoverable as expect_recoverable_prog};
-ghost use Rattle.parser.specs.View.{tokens_left, matcher_of, kinds_of, Walks, TakesOne};
+ghost use Rattle.parser.specs.View.{tokens_left, matcher_of, Walks, TakesOne};
 
 use crate::Parser;
 use crate::errors::Bump;
@@ -24,7 +24,7 @@ impl<'a> Parser<'a> {
 
     // `check(matcher).silent().at()`
     pub fn silent(&mut self, m: Matcher) -> bool
-        ensures walks { Walks (act (silent_at (kinds_of m))) self.old (truth result) self.new }
+        ensures walks { Walks (matcher_of m).matches self.old (truth result) self.new }
         ensures some { result ≡ true → 0 < tokens_left self.new }
     {
         self.peek();
