@@ -85,6 +85,13 @@ fn pool_count(message: Message, pending: &Pending) -> u32
     }
 }
 
+// A hint's number, or 0.
+fn hint_number(hint: Option<Hint>) -> u32
+    ensures { result ≡ hint_of hint }
+{
+    hint.map_or(0, Hint::number)
+}
+
 impl<'a> Parser<'a> {
     // The cursor stands at a token, or at the end.
     fn current_token_error_range(&self) -> TextRange
@@ -135,7 +142,7 @@ impl<'a> Parser<'a> {
                 low32(self.mark.0),
                 low32(first),
                 pool_count(message, &self.pending),
-                hint.map_or(0, Hint::number),
+                hint_number(hint),
                 label.start.0,
                 label.end.0,
             ],
