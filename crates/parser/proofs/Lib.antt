@@ -1,4 +1,7 @@
 -- What the proofs of the functions share.
-pub mod Ways
-pub mod Stores
+pub mod Lists
+pub mod Marks
 pub mod Moves
+pub mod Reports
+pub mod Stores
+pub mod Ways

@@ -58,8 +58,8 @@ fn put_codes(pool: &mut [u32], first: usize, codes: &[u8])
     requires { first + length codes.now ≤ length pool.old }
     ensures { pool.new ≡ sets pool.old first codes.now }
 {
-    for (number, code) in pool[first..].iter_mut().zip(codes) {
-        *number = *code as u32;
+    for (i, code) in codes.iter().enumerate() {
+        pool[first + i] = *code as u32;
     }
 }
 
@@ -83,6 +83,13 @@ fn pool_count(message: Message, pending: &Pending) -> u32
     } else {
         0
     }
+}
+
+// A hint's number, or 0.
+fn hint_number(hint: Option<Hint>) -> u32
+    ensures { result ≡ hint_of hint }
+{
+    hint.map_or(0, Hint::number)
 }
 
 impl<'a> Parser<'a> {
@@ -135,7 +142,7 @@ impl<'a> Parser<'a> {
                 low32(self.mark.0),
                 low32(first),
                 pool_count(message, &self.pending),
-                hint.map_or(0, Hint::number),
+                hint_number(hint),
                 label.start.0,
                 label.end.0,
             ],
