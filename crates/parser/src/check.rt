@@ -77,26 +77,25 @@ impl<'a> Parser<'a> {
         ensures walks { Walks (expect_prog (matcher_of m)) self.old (truth result) self.new }
         ensures taken { result ≡ true → TakesOne self.old self.new }
     {
-        let eaten = self.eat(m);
-        if !eaten {
-            self.error(Message::Expected, None, Bump::No);
+        if self.eat(m) {
+            return true;
         }
-        eaten
+        self.error(Message::Expected, None, Bump::No);
+        false
     }
 
     // On a failure, a token that is not in the recovery set is taken into a ParseError.
     pub fn expect_recoverable(&mut self, m: Matcher, recovery: &[u8]) -> bool
-        ensures walks { Walks (expect_recoverable_prog (matcher_of m) recovery.now) self.old (truth result) self.new }
+        ensures { Walks (expect_recoverable_prog (matcher_of m) recovery.now) self.old (truth result) self.new }
     {
-        let eaten = self.eat(m);
-        if !eaten {
-            let bump = if self.silent_at_set(recovery) {
-                Bump::No
-            } else {
-                Bump::YesWrapErr
-            };
-            self.error(Message::Expected, None, bump);
+        if self.eat(m) {
+            return true;
         }
-        eaten
+        if self.silent_at_set(recovery) {
+            self.error(Message::Expected, None, Bump::No);
+        } else {
+            self.error(Message::Expected, None, Bump::YesWrapErr);
+        }
+        false
     }
 }

@@ -1,4 +1,5 @@
-use Rattle.std.proofs.Common.{ap}
+use Rattle.std.proofs.Common.{ap, refl}
+use Rattle.basics.proofs.Flags.{flags}
 use Rattle.definitions.specs.Prog.{yes}
 use Rattle.machine.specs.Machine as M
 use Rattle.machine.specs.Walk.{said, perform}
@@ -8,4 +9,6 @@ use Rattle.parser.proofs.Parser.add_expected.Goals as goal
 
 pub returns : goal.returns
 unfolding perform M.expect_code tokens_left
-returns c = acts (λ b. ap (λ (x : M.Pending). said yes (M.with_pending x (view c.args.self.now))) c.add.ensures) ? ?
+returns c =
+    acts (λ b. ap (λ (x : M.Pending). said yes (M.with_pending x (view c.args.self.now))) c.add.ensures)
+    (record { tokens = refl; events = refl; reports = refl; pool = refl }) (omega flags)

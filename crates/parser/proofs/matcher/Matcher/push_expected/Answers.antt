@@ -3,4 +3,5 @@ use Rattle.parser.proofs.matcher.Matcher.push_expected.Goals as goal
 
 pub returns-in-Either : goal.returns-in-Either
 returns-in-Either c =
-    walks (λ ask b. seq (c.add_expected-in-Either.ensures.way ask b) (seq (c.add_expected-in-Either-2.ensures.way ask b) stay))
+    rw c.in-Either.is
+    (walks (λ ask b. seq (c.add_expected-in-Either.ensures.way ask b) (seq (c.add_expected-in-Either-2.ensures.way ask b) stay)))
