@@ -1,12 +1,12 @@
 -- Laws of plain lists that the proofs share: stores one after the other, and the codes that a report names.
-use Rattle.std.proofs.Common.{ℕ, ◌+◌, ◌-◌, ◌≤◌, ◌<◌, ◌≡◌, refl, sym, ◌∙◌, ap, List, [], ◌∷◌, ◌++◌, length, get_or, take, arith}
+use Rattle.std.proofs.Common.{ℕ, ◌+◌, ◌≤◌, ◌<◌, ◌≡◌, refl, sym, ◌∙◌, ap, List, [], ◌∷◌, ◌++◌, length, get_or, take, arith}
 use Prim.Native.Nat.{suc}
-use Rattle.std.specs.Prelude.{Bool, true, false, cond, ◌&&◌, ◌||◌, eqb}
+use Rattle.std.specs.Prelude.{false, ◌&&◌, ◌||◌, eqb}
 use lib.ListN.{set}
 use lib.Seq.{take-suc, length-take-le}
 use Rattle.std.proofs.lemmas.List.Edits.{sets}
 use Rattle.definitions.specs.TokenKind as K
-use Rattle.definitions.specs.Run.{only_separators, pool_of}
+use Rattle.definitions.specs.Run.{only_separators}
 
 -- ---------------------------------------------------------------- stores
 

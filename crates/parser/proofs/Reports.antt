@@ -4,7 +4,7 @@ use Rattle.std.specs.Prelude.{Bool, true, false, cond, ◌&&◌, eqb}
 use Rattle.std.proofs.lemmas.List.Edits.{sets}
 use denote.Enum.Bare.{sameb}
 use Rattle.definitions.specs.Errors.{msg_expected}
-use Rattle.definitions.specs.Layout.{TOKEN_ROW, REPORT_ROW, NO_REPORT_ROOM}
+use Rattle.definitions.specs.Layout.{TOKEN_ROW, REPORT_ROW, ERROR, NO_REPORT_ROOM}
 use Rattle.definitions.specs.Token.{Token, tokens_of}
 use Rattle.definitions.specs.Skeleton.{Span}
 use Rattle.definitions.specs.Run.{only_separators, pool_of}
@@ -97,3 +97,11 @@ module _ (message hint : ℕ) (range lab : Span) (m : Machine) where
 
   pub report_full : (ks : List ℕ) (x : Machine) → ks ≡ pool_of message m.pending.codes → eqb m.refusal 0 ≡ true → room ks ≡ false → x ≡ M.refuse NO_REPORT_ROOM m → x ≡ write_report message hint range lab m
   report_full ks x k e f g = g ∙ by ks true false k e f
+
+-- the event, and then the row
+pub emit_is : (ts : List Token) (message hint : ℕ) (range lab : Span) (m p q r : Machine) → p ≡ M.peek ts m → range ≡ error_range (drop p.cursor ts) p → q ≡ M.push ERROR 0 p
+    → r ≡ write_report message hint range lab q → r ≡ M.emit ts message hint lab m
+unfolding M.emit
+emit_is ts message hint range lab m p q r e f g h =
+    h ∙ ap (λ (x : Machine). write_report message hint range lab x) g ∙ ap (λ (x : Span). write_report message hint x lab (M.push ERROR 0 p)) f
+    ∙ ap (λ (x : Machine). write_report message hint (error_range (drop x.cursor ts) x) lab (M.push ERROR 0 x)) e

@@ -1,11 +1,11 @@
 -- `push_report`: the row and its codes, or refusal 7.
 use Rattle.std.proofs.Common.{◌≡◌, refl, sym, ◌∙◌, ap, true, false, length}
-use Rattle.std.specs.Prelude.{◌&&◌, eqb}
+use Rattle.std.specs.Prelude.{◌&&◌}
 use Rattle.basics.proofs.Flags.{flags}
 use Rattle.std.proofs.lemmas.List.Edits.{sets}
 use Rattle.layout.specs.Numbers.{message_number}
 use Rattle.machine.specs.Machine.{fits}
-use Rattle.parser.specs.View.{view, refusal_of, hint_of, span_of, tokens_left}
+use Rattle.parser.specs.View.{view, hint_of, span_of, tokens_left}
 use Rattle.parser.proofs.Stores.{quiet}
 use Rattle.parser.proofs.Reports.{report_off, report_fits, report_full}
 use Rattle.parser.proofs.Parser.push_report.Goals as goal
@@ -24,10 +24,10 @@ returns-then-not-fits c =
     let p = c.args.self.now in
     let ks = c.codes_of-n.result.now in
     let full : (fits (length p.reports.now) p.reports_written 9 && fits (length p.pool.now) p.pool_written (length ks)) ≡ false =
-        elim c.then-not-fits.branch [
-          | then-not-fits-via-then-not-fits w ↦ rw (← c.fits.ensures.value, w.if-not-fits.true)
-          | then-not-fits-via-else-not-fits+then-not-fits-2 w ↦ rw (← c.fits.ensures.value, w.if-not-fits.false, ← w.fits-else-not-fits.ensures.value, w.if-not-fits-2.true)
-        ] in
+    elim c.then-not-fits.branch [
+      | then-not-fits-via-then-not-fits w ↦ rw (← c.fits.ensures.value, w.if-not-fits.true)
+      | then-not-fits-via-else-not-fits+then-not-fits-2 w ↦ rw (← c.fits.ensures.value, w.if-not-fits.false, ← w.fits-else-not-fits.ensures.value, w.if-not-fits-2.true)
+    ] in
     record {
       is = report_full (message_number c.args.message) (hint_of c.args.hint) (span_of c.args.range) (span_of c.args.label) (view c.args.self.now)
           ks _ c.codes_of-n.ensures.value (quiet c.args.self.now.refused true (sym c.is_some.ensures ∙ c.if-is_some.false)) full c.refuse.ensures.is;

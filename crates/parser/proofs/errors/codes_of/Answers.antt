@@ -1,5 +1,4 @@
 -- `codes_of`: all that are pending, or none.
-use Rattle.std.proofs.Common.{sym, ◌∙◌}
 use Rattle.parser.proofs.Reports.{pool_is}
 use Rattle.parser.proofs.errors.codes_of.Goals as goal
 

@@ -2,7 +2,6 @@
 use Rattle.std.proofs.Common.{rules, arith, ◌≡◌, get_or}
 use Rattle.std.specs.Prelude.{◌≢◌}
 use Rattle.std.proofs.lemmas.Bool.{ne_eqb}
-use Rattle.basics.proofs.Flags.{flags}
 use Rattle.parser.proofs.Lists.{only_one, only_two, only_none, only_many}
 use Rattle.parser.proofs.errors.ends_statement.Goals as goal
 
