@@ -133,21 +133,66 @@ pub record Becomes (f : Machine → Machine) (p q : Parser) : Type 0 where
   pub same : Same p q
   pub left : tokens_left q ≤ tokens_left p
 
--- a program walked from p, its calls answered by `ask` and its brace at b, answers a, gives its marker the shape k, and
--- comes to q
-pub record Way (ask : List Token → Rule → Machine → Walked) (b : Span) (g : Prog) (p : Parser) (a : Ans) (k : ℕ) (q : Parser) : Type 0 where
-  pub is : record { ans = a; shape = k; on = view q } ≡ walk (ask (toks p)) (toks p) b g (view p)
-  pub same : Same p q
-  pub left : tokens_left q ≤ tokens_left p
+-- the marker that a function's caller made for it closed at the end, if there is one
+abbrev pub closed_by : Option M.Marker → Walked → Walked
+closed_by None w = w
+closed_by (Some m) w = marked m w
 
--- the same whatever an open call does and wherever the brace is
-pub record Walks (g : Prog) (p : Parser) (a : Ans) (q : Parser) : Type 0 where
-  pub way : (ask : List Token → Rule → Machine → Walked) (b : Span) → Way ask b g p a NO_NODE q
+-- a program walked from p, its calls answered by `ask`, its brace at b and its caller's marker closed, answers a, gives
+-- the marker around it the shape k, and comes to q
+pub record Way (ask : List Token → Rule → Machine → Walked) (b : Span) (e : Option M.Marker) (g : Prog) (p : Parser) (a : Ans) (k : ℕ) (q : Parser) : Type 0 where
+  pub is : record { ans = a; shape = k; on = view q } ≡ closed_by e (walk (ask (toks p)) (toks p) b g (view p))
   pub same : Same p q
   pub left : tokens_left q ≤ tokens_left p
 
 -- the same, where the code does not know the answer
+pub record Lands (ask : List Token → Rule → Machine → Walked) (b : Span) (g : Prog) (p q : Parser) : Type 0 where
+  pub is : view q ≡ (walk (ask (toks p)) (toks p) b g (view p)).on
+  pub same : Same p q
+  pub left : tokens_left q ≤ tokens_left p
+
+-- ------------------------------------- what a contract says: whatever an open call does, and wherever the brace is
+
+pub record Walks (g : Prog) (p : Parser) (a : Ans) (q : Parser) : Type 0 where
+  pub way : (ask : List Token → Rule → Machine → Walked) (b : Span) → Way ask b None g p a NO_NODE q
+  pub same : Same p q
+  pub left : tokens_left q ≤ tokens_left p
+
 pub record WalksOn (g : Prog) (p q : Parser) : Type 0 where
-  pub is : (ask : List Token → Rule → Machine → Walked) (b : Span) → view q ≡ (walk (ask (toks p)) (toks p) b g (view p)).on
+  pub way : (ask : List Token → Rule → Machine → Walked) (b : Span) → Lands ask b g p q
+  pub same : Same p q
+  pub left : tokens_left q ≤ tokens_left p
+
+-- m, its caller's marker, closed
+pub record Closes (m : Marker) (g : Prog) (p : Parser) (a : Ans) (q : Parser) : Type 0 where
+  pub way : (ask : List Token → Rule → Machine → Walked) (b : Span) → Way ask b (Some (marker_of m)) g p a NO_NODE q
+  pub same : Same p q
+  pub left : tokens_left q ≤ tokens_left p
+
+-- the same with the brace at a range
+pub record ClosesAt (range : TextRange) (m : Marker) (g : Prog) (p : Parser) (a : Ans) (q : Parser) : Type 0 where
+  pub way : (ask : List Token → Rule → Machine → Walked) → Way ask (span_of range) (Some (marker_of m)) g p a NO_NODE q
+  pub same : Same p q
+  pub left : tokens_left q ≤ tokens_left p
+
+-- -------------------------------------------------------------------------------- with n open calls allowed
+
+abbrev pub WalksWithin : ℕ → Prog → Parser → Ans → Parser → Type 0
+WalksWithin n g p a q = Way (walk_rule n) unlabelled None g p a NO_NODE q
+
+abbrev pub WalksWithinOn : ℕ → Prog → Parser → Parser → Type 0
+WalksWithinOn n g p q = Lands (walk_rule n) unlabelled g p q
+
+abbrev pub ClosesWithin : ℕ → Marker → Prog → Parser → Ans → Parser → Type 0
+ClosesWithin n m g p a q = Way (walk_rule n) unlabelled (Some (marker_of m)) g p a NO_NODE q
+
+-- a rule that opens a call
+pub record OpensWithin (n : ℕ) (r : Rule) (p : Parser) (a : Ans) (q : Parser) : Type 0 where
+  pub is : said a (view q) ≡ walk_rule n (toks p) r (view p)
+  pub same : Same p q
+  pub left : tokens_left q ≤ tokens_left p
+
+pub record OpensWithinOn (n : ℕ) (r : Rule) (p q : Parser) : Type 0 where
+  pub is : view q ≡ (walk_rule n (toks p) r (view p)).on
   pub same : Same p q
   pub left : tokens_left q ≤ tokens_left p
