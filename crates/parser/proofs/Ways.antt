@@ -15,10 +15,10 @@ use Rattle.definitions.specs.NodeKind.{NO_NODE}
 use Rattle.definitions.specs.Token.{Token, tokens_of}
 use Rattle.definitions.specs.Skeleton.{Span}
 use Rattle.definitions.specs.Errors as E
-use Rattle.definitions.specs.Prog.{choose, Ans, no, yes, also, again, Rule, Act, emit, emit_unclosed, Prog, ret, act, ◌⨟◌, case, in_marker, loop, open_call}
+use Rattle.definitions.specs.Prog.{choose, Ans, no, yes, also, again, Rule, Act, emit, emit_unclosed, Prog, ret, act, ◌⨟◌, case, in_marker, loop, brace, open_call}
 use Rattle.definitions.specs.Grammar.{grammar}
 use Rattle.definitions.specs.Run.{truth, is_again}
-use Rattle.machine.specs.Machine.{Machine, push, complete, refuse}
+use Rattle.machine.specs.Machine.{Machine, push, complete, refuse, range_at}
 use Rattle.machine.specs.Machine as M
 use Rattle.machine.specs.Walk.{Walked, said, perform, next_marker, close, marked, walk, unlabelled, walk_rule}
 use Rattle.machine.proofs.Way.{Way as Step, c_act, c_seq, c_yes, c_no, c_case, c_mark, c_call, rule_closed}
@@ -26,7 +26,7 @@ use Rattle.machine.proofs.Turns.{ahead, turn_again, turn_last}
 use Rattle.parser.specs.declared.Parser.{Parser}
 use Rattle.parser.specs.declared.marker.Marker.{Marker}
 use Rattle.parser.specs.declared.errors.TextRange.{TextRange}
-use Rattle.parser.specs.View.{view, toks, tokens_left, marker_of, span_of, closed_by, Same, Becomes, Way, Lands, Walks, WalksOn, Closes, ClosesAt, OpensWithin, OpensWithinOn}
+use Rattle.parser.specs.View.{view, toks, rest, tokens_left, marker_of, span_of, closed_by, Same, Becomes, Way, Lands, Walks, WalksOn, Closes, ClosesAt, OpensWithin, OpensWithinOn}
 
 -- ---------------------------------------------------------------- the same lent buffers
 
@@ -77,6 +77,15 @@ module _ {ask : List Token → Rule → Machine → Walked} {b : Span} where
   -- an answer that a test has shown to be v
   pub shown : {e : Option M.Marker} {g : Prog} {p q : Parser} {y v : Bool} {k : ℕ} → y ≡ v → Way ask b e g p (truth v) k q → Way ask b e g p (truth y) k q
   shown {q = q} {k = k} i w = record { is = ap (λ (z : Bool). record { ans = truth z; shape = k; on = view q }) i ∙ w.is; same = w.same; left = w.left }
+
+  -- an answer by another name
+  pub answers : {e : Option M.Marker} {g : Prog} {p q : Parser} {a v : Ans} {k : ℕ} → a ≡ v → Way ask b e g p a k q → Way ask b e g p v k q
+  answers {q = q} {k = k} i w = record { is = ap (λ (z : Ans). record { ans = z; shape = k; on = view q }) (sym i) ∙ w.is; same = w.same; left = w.left }
+
+  -- a brace: its label is the range of the token that stands here
+  pub braced : {e : Option M.Marker} {g : Prog} {p q : Parser} {c : Span} {a : Ans} {k : ℕ} → c ≡ range_at (rest p) (view p) → Way ask c e g p a k q → Way ask b e (brace g) p a k q
+  unfolding walk
+  braced {e = e} {g = g} {p = p} i w = record { is = w.is ∙ ap (λ (c : Span). closed_by e (walk (ask (toks p)) (toks p) c g (view p))) i; same = w.same; left = w.left }
 
   pub seq : {e : Option M.Marker} {g h : Prog} {p q r : Parser} {a a' : Ans} {k k' : ℕ} → Way ask b None g p a k q → Way ask b e h q a' k' r → Way ask b e (g ⨟ h) p a' k' r
   seq {h = h} v w = rest_of v.same v.left (c_seq (step v) (from ask b h v.same)) w
