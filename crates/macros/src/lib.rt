@@ -34,6 +34,7 @@ pub enum Role {
     Inside(usize),
 }
 
+#[tactic(auto, unfolding(crate::specs::Role::role))]
 fn role_of(k: u8, level: usize) -> Role
     requires { level < TWO_TO_64 - 1 }
     ensures { result ≡ role k level }
