@@ -1,6 +1,6 @@
 -- Tests made of others.
 use Prim.Native.Nat.{ℕ}
-use mathlib.Core.Path.{◌≡◌, refl, sym, ap, ◌∙◌}
+use mathlib.Core.Path.{◌≡◌, refl, ◌∙◌}
 use mathlib.Core.Bool.{Bool, true, false, not}
 use mathlib.Core.List.{List}
 use Rattle.std.specs.Prelude.{None}
@@ -8,7 +8,7 @@ use Rattle.definitions.specs.NodeKind.{NO_NODE}
 use Rattle.definitions.specs.Token.{Token}
 use Rattle.definitions.specs.Skeleton.{Span}
 use Rattle.definitions.specs.Prog.{choose, Ans, no, yes, also, again, Rule, Prog}
-use Rattle.definitions.specs.Check.{tell, ◌or◌, not!}
+use Rattle.definitions.specs.Check.{◌or◌, not! }
 use Rattle.definitions.specs.Run.{truth}
 use Rattle.machine.specs.Machine.{Machine}
 use Rattle.machine.specs.Walk.{Walked, walk}

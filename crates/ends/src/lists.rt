@@ -1,5 +1,5 @@
 // Where items, values and cells end: the conditions of grammar.rs's loops.
-ghost use Rattle.std.specs.Prelude.{◌≡◌, true, false, ◌≤◌, ◌<◌};
+ghost use Rattle.std.specs.Prelude.{◌≡◌, true, false, ◌<◌};
 ghost use Rattle.definitions.specs.Prog.{yes, also};
 ghost use Rattle.definitions.specs.Grammar.{cells_end, after_propvalue};
 ghost use Rattle.definitions.specs.Run.{truth};

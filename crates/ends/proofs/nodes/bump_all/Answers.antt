@@ -1,4 +1,4 @@
-use Rattle.std.proofs.Common.{arith, refl}
+use Rattle.std.proofs.Common.{refl}
 use mathlib.Core.Bool.{true, false}
 use Rattle.basics.proofs.Flags.{flags}
 use Rattle.definitions.specs.Grammar.{left_over_turn}

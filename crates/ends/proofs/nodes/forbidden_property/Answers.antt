@@ -1,4 +1,3 @@
-use Rattle.std.proofs.Common.{refl}
 use Rattle.definitions.specs.Check.{silent}
 use Rattle.definitions.specs.Grammar.{forbidden_property}
 use Rattle.parser.proofs.Ways.{walks, stay}
