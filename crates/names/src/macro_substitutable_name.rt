@@ -9,6 +9,7 @@ use parser::matcher::Matcher;
 #[derive(Clone, Copy)]
 pub struct MacroSubstitutableName;
 
+#[tactic(auto, unfolding(definitions::specs::Grammar::MacroSubstitutableName))]
 impl TokenMatcher for MacroSubstitutableName {
     ghost matcher = { matcher_of_names };
 

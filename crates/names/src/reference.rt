@@ -33,7 +33,7 @@ fn path_segment(p: &mut Parser)
 // Whether a path goes on here.
 fn at_segment(p: &mut Parser) -> bool
     ensures walks { Walks at_segment p.old (truth result) p.new }
-    ensures some { result ≡ true → 0 < tokens_left p.new }
+    ensures some { result ≡ true → 0 < tokens_left p.old }
 {
     !p.at(Matcher::Kind(TokenKind::RCurly))
         && !p.at_end()
@@ -88,6 +88,7 @@ pub fn reference_noamp(p: &mut Parser)
 #[derive(Clone, Copy)]
 pub struct Reference;
 
+#[tactic(auto, unfolding(definitions::specs::Grammar::Reference))]
 impl TokenMatcher for Reference {
     ghost matcher = { matcher_of_references };
 

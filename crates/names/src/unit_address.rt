@@ -11,6 +11,7 @@ use parser::matcher::Matcher;
 #[derive(Clone, Copy)]
 pub struct UnitAddress;
 
+#[tactic(auto, unfolding(definitions::specs::Grammar::UnitAddress))]
 impl TokenMatcher for UnitAddress {
     ghost matcher = { matcher_of_addresses };
 
