@@ -43,7 +43,7 @@ pub trait TokenMatcher: Copy {
     // `check(self).silent().eat()`
     fn silent_eat(self, p: &mut Parser) -> bool
         ensures walks { Walks (silent_eat_prog matcher) p.old (truth result) p.new }
-        ensures taken { result ≡ true → TakesOne p.old p.new }
+        ensures taken { result ≡ true → tokens_left p.new < tokens_left p.old }
     {
         let matched = self.matches(p);
         if matched {
