@@ -2,11 +2,11 @@
 // `/memreserve/`, `/delete-node/`, `/delete-property/`. No open call can be under one.
 #![tactic(auto)]
 
-ghost use Rattle.std.specs.Prelude.{◌≡◌, true};
+ghost use Rattle.std.specs.Prelude.{◌≡◌, true, ◌<◌};
 ghost use Rattle.definitions.specs.Prog.{yes};
 ghost use Rattle.definitions.specs.Grammar.{eat_dts_include, eat_dts_directive};
 ghost use Rattle.definitions.specs.Run.{truth};
-ghost use Rattle.parser.specs.View.{Walks, Closes, TakesOne};
+ghost use Rattle.parser.specs.View.{tokens_left, Walks, Closes, TakesOne};
 ghost use Rattle.directives.specs.Subprograms.{directive_end, memreserve_arguments, deleted, delete_arguments, directive_with_arguments};
 
 use layout::message::Message;
@@ -35,7 +35,7 @@ const DELETE: Matcher = Matcher::Either(
 
 pub fn eat_dts_include(p: &mut Parser) -> bool
     ensures walks { Walks eat_dts_include p.old (truth result) p.new }
-    ensures taken { result ≡ true → TakesOne p.old p.new }
+    ensures taken { result ≡ true → tokens_left p.new < tokens_left p.old }
 {
     if !p.at(INCLUDE) {
         return false;

@@ -16,11 +16,11 @@ abbrev pub run_of : Entry → List ℕ → List ℕ → List ℕ → List ℕ �
 run_of e tokens events reports pool =
     (walk_prog MOST_OPEN_CALLS (tokens_of tokens) unlabelled (whole e) (fresh events reports pool)).on
 
--- what is left is that machine
-pub record Leaves (m : Machine) (r : Run) (events reports pool : List ℕ) : Type 0 where
-  pub events : record { count = r.events_written; numbers = events } ≡ m.events
-  pub reports : record { count = r.reports_written; numbers = reports } ≡ m.reports
-  pub pool : record { count = r.pool_written; numbers = pool } ≡ m.pool
+-- what is left is that machine: the answer, and the buffers after the call
+pub record Leaves (m : Machine) (r : Run) (e t l : List ℕ) : Type 0 where
+  pub events : record { count = r.events_written; numbers = e } ≡ m.events
+  pub reports : record { count = r.reports_written; numbers = t } ≡ m.reports
+  pub pool : record { count = r.pool_written; numbers = l } ≡ m.pool
   pub refusal : refusal_of r.refused ≡ m.refusal
   pub place : place_of r.refused ≡ m.place
 

@@ -6,7 +6,7 @@ ghost use Rattle.basics.specs.Word.{low};
 ghost use Rattle.layout.specs.Numbers.{refusal_number, tag_number};
 ghost use Rattle.definitions.specs.Prog.{yes, act, bump as bump_act, bump_name as bump_name_act};
 ghost use Rattle.machine.specs.Machine.{refuse as refuse_machine, push_row as push_row_machine, push, name_stretch};
-ghost use Rattle.parser.specs.View.{rest, Becomes, Walks, TakesOne};
+ghost use Rattle.parser.specs.View.{rest, tokens_left, Becomes, Walks, TakesOne};
 
 use crate::{Parser, Refused};
 use layout::TokenIndex;
@@ -24,7 +24,8 @@ pub const PAST_THE_END: TokenIndex = TokenIndex(18446744073709551615);
 impl<'a> Parser<'a> {
     // The first refusal stays.
     pub fn refuse(&mut self, cause: Refusal)
-        ensures { Becomes (refuse_machine (refusal_number cause)) self.old self.new }
+        ensures becomes { Becomes (refuse_machine (refusal_number cause)) self.old self.new }
+        ensures ended { tokens_left self.new ≡ 0 }
     {
         if self.refused.is_none() {
             self.refused = Some(Refused {

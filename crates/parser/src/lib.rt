@@ -50,3 +50,15 @@ pub enum Ans {
     Also,
     Again,
 }
+
+impl From<bool> for Ans {
+    ghost use Rattle.std.specs.Prelude.{◌≡◌};
+    ghost use Rattle.definitions.specs.Run.{truth};
+    ghost use Rattle.parser.specs.View.{ans_of};
+
+    ghost from_gives = { λ yes ans. ans_of ans ≡ truth yes };
+
+    fn from(yes: bool) -> Ans {
+        if yes { Ans::Yes } else { Ans::No }
+    }
+}

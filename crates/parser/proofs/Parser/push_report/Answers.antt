@@ -30,9 +30,9 @@ returns-then-not-fits c =
     ] in
     record {
       is = report_full (message_number c.args.message) (hint_of c.args.hint) (span_of c.args.range) (span_of c.args.label) (view c.args.self.now)
-          ks _ c.codes_of-n.ensures.value (quiet c.args.self.now.refused true (sym c.is_some.ensures ∙ c.if-is_some.false)) full c.refuse.ensures.is;
-      same = c.refuse.ensures.same;
-      left = c.refuse.ensures.left;
+          ks _ c.codes_of-n.ensures.value (quiet c.args.self.now.refused true (sym c.is_some.ensures ∙ c.if-is_some.false)) full c.refuse.ensures.becomes.is;
+      same = c.refuse.ensures.becomes.same;
+      left = c.refuse.ensures.becomes.left;
     }
 
 pub returns : goal.returns

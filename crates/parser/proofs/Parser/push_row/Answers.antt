@@ -16,7 +16,7 @@ returns-then-fits c =
 pub returns-else-fits : goal.returns-else-fits
 returns-else-fits c =
     record {
-      is = row_refused _ _ (view c.args.self.now) _ (sym c.fits.ensures.value ∙ c.if-fits.false) c.refuse.ensures.is;
-      same = c.refuse.ensures.same;
-      left = c.refuse.ensures.left;
+      is = row_refused _ _ (view c.args.self.now) _ (sym c.fits.ensures.value ∙ c.if-fits.false) c.refuse.ensures.becomes.is;
+      same = c.refuse.ensures.becomes.same;
+      left = c.refuse.ensures.becomes.left;
     }

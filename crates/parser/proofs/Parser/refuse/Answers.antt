@@ -5,9 +5,9 @@ use Rattle.parser.proofs.Stores.{quiet, refuse_first, refuse_again}
 use Rattle.parser.proofs.Parser.refuse.Goals.{then-is_none, else-is_none}
 use Rattle.parser.proofs.Parser.refuse.Goals as goal
 
-pub returns : goal.returns
+pub returns-clause-becomes : goal.returns-clause-becomes
 unfolding tokens_left
-returns c =
+returns-clause-becomes c =
     let q = quiet c.args.self.now.refused c.is_none.result c.is_none.ensures in
     elim c.if-is_none.branch [
       | then-is_none w ↦ record {
