@@ -2,7 +2,7 @@
 // a level.
 #![tactic(auto)]
 
-ghost use Rattle.std.specs.Prelude.{◌≡◌, ◌≤◌, ◌<◌, IfSome};
+ghost use Rattle.std.specs.Prelude.{◌≡◌, ◌≤◌, ◌<◌, IsSome};
 ghost use Rattle.definitions.specs.BindingPower.{binary_levels};
 ghost use Rattle.binding_power.specs.Power.{level_in, left_of, right_of, is_binary};
 ghost use Rattle.binding_power.specs.Answer.{left_in, right_in, binary_in};
@@ -81,7 +81,7 @@ pub fn binding_power(k: u8) -> Option<BindingPower>
     ensures left { left_in result ≡ left_of k }
     ensures right { right_in result ≡ right_of k }
     ensures binary { binary_in result ≡ is_binary k }
-    ensures some { IfSome result (λ power. 0 < power.left) }
+    ensures some { IsSome result → 0 < left_in result }
 {
     if k == TokenKind::QuestionMark as u8 {
         return Some(BindingPower {
