@@ -3,7 +3,7 @@ use mathlib.Core.Path.{◌≡◌, refl}
 use mathlib.Core.List.{[], ◌∷◌}
 use Rattle.definitions.specs.TokenKind as K
 use Rattle.definitions.specs.NodeKind as N
-use Rattle.definitions.specs.Prog.{yes, ret, ◌⨟◌, in_marker}
+use Rattle.definitions.specs.Prog.{no, yes, ret, ◌⨟◌, in_marker}
 use Rattle.definitions.specs.Check.{tell, when◌then◌else◌, bump!, set, of_kind, at, expect, eat_starting◌inside◌else◌}
 use Rattle.definitions.specs.Grammar.{eat_dts_include, eat_dts_directive}
 use Rattle.directives.specs.Subprograms.{directive_end, memreserve_arguments, delete_arguments, directive_with_arguments}

@@ -13,7 +13,10 @@ use layout::message::Message;
 use layout::node_kind::NodeKind;
 use layout::set::ITEM_RECOVERY_SET;
 use layout::token_kind::TokenKind;
-use names::{macro_substitutable_name, reference, unit_address};
+use names::TokenMatcher;
+use names::macro_substitutable_name::MacroSubstitutableName;
+use names::reference::Reference;
+use names::unit_address::UnitAddress;
 use parser::Parser;
 use parser::errors::Bump;
 use parser::marker::Marker;
@@ -65,11 +68,11 @@ fn memreserve_arguments(p: &mut Parser)
 fn eat_deleted(p: &mut Parser) -> bool
     ensures { Walks deleted p.old (truth result) p.new }
 {
-    if reference::eat(p) {
+    if Reference.eat(p) {
         return true;
     }
-    if macro_substitutable_name::eat(p) {
-        return unit_address::eat(p);
+    if MacroSubstitutableName.eat(p) {
+        return UnitAddress.eat(p);
     }
     p.error(Message::Expected, None, Bump::No);
     true

@@ -31,7 +31,8 @@ use layout::set::{
 };
 use layout::token_kind::TokenKind;
 use macros::macro_invocation;
-use names::reference;
+use names::TokenMatcher;
+use names::reference::Reference;
 use parser::errors::Bump;
 use parser::marker::Marker;
 use parser::matcher::Matcher;
@@ -135,12 +136,11 @@ fn propvalues(p: &mut Parser, allowed: usize, semicolon: bool) -> bool
         match value(p, allowed - 1, semicolon) {
             Ans::No => return false,
             Ans::Also => return true,
-            _ => {}
-        }
-        match after_propvalue(p, semicolon) {
-            Ans::Again => {}
-            Ans::Yes => return true,
-            _ => return false,
+            Ans::Yes | Ans::Again => match after_propvalue(p, semicolon) {
+                Ans::Again => {}
+                Ans::Yes => return true,
+                Ans::No | Ans::Also => return false,
+            },
         }
     }
 }
@@ -190,7 +190,7 @@ fn value_rest(p: &mut Parser, allowed: usize, semicolon: bool) -> Ans
     ensures walks { WalksWithin allowed (value_rest semicolon) p.old (ans_of result) p.new }
     ensures taken { TakesOne p.old p.new }
 {
-    if reference::silent_eat(p) {
+    if Reference.silent_eat(p) {
         return Ans::Yes;
     }
     if p.silent_at(TokenKind::Ident) {
@@ -306,20 +306,24 @@ fn eat_node_or_prop(p: &mut Parser, allowed: usize) -> bool
     ensures taken { result ≡ true → TakesOne p.old p.new }
 {
     let m = p.start();
-    let allow_prop = match eat_node_or_prop_prefix(p) {
+    match eat_node_or_prop_prefix(p) {
         Ans::No => {
             m.ignore(p);
-            return false;
+            false
         }
-        Ans::Also => true,
-        _ => false,
-    };
-    if allow_prop && p.at(Matcher::Either(TokenKind::Equals, TokenKind::Semicolon)) {
-        dt_property(p, allowed, m);
-        return true;
+        Ans::Also => {
+            if p.at(Matcher::Either(TokenKind::Equals, TokenKind::Semicolon)) {
+                dt_property(p, allowed, m);
+            } else {
+                node(p, allowed, m, true);
+            }
+            true
+        }
+        Ans::Yes | Ans::Again => {
+            node(p, allowed, m, false);
+            true
+        }
     }
-    node(p, allowed, m, allow_prop);
-    true
 }
 
 // What follows the prefix, unless it is a property: the definitions' `no_property`. Completes m, which the caller made.

@@ -1,49 +1,78 @@
 // The grammar's own matchers of grammar.rs: names that may be macros, unit addresses and references. No open call can
-// be under any of these. The functions here are for the cycle of calls, which holds the whole parser by value; the
-// work is done in the modules.
+// be under any of these.
 #![tactic(auto)]
 
 pub mod macro_substitutable_name;
 pub mod reference;
 pub mod unit_address;
 
-ghost use Rattle.std.specs.Prelude.{◌≡◌, true, ◌-◌, ◌≤◌};
+ghost use Rattle.std.specs.Prelude.{◌≡◌, true, ◌<◌};
 ghost use Rattle.definitions.specs.Prog.{yes};
-ghost use Rattle.definitions.specs.Check.{silent_eat as silent_eat_prog};
-ghost use Rattle.definitions.specs.Grammar.{reference_noamp as reference_noamp_prog, Reference};
-ghost use Rattle.parser.specs.View.{parser_tested, tokens_left, ParserWalks, ParserWalksOn};
+ghost use Rattle.definitions.specs.Run.{truth};
+ghost use Rattle.definitions.specs.Check.{Matcher, at as at_prog, silent_eat as silent_eat_prog, eat as eat_prog, expect as expect_prog};
+ghost use Rattle.parser.specs.View.{tokens_left, Walks, TakesOne};
 
-use parser::{Parser, ParserTested};
+use layout::message::Message;
+use parser::Parser;
+use parser::errors::Bump;
 
-pub fn silent_eat_reference(
-    p: Parser,
-    tokens: &[u32],
-    events: &mut [u32],
-    reports: &mut [u32],
-    pool: &mut [u32],
-) -> ParserTested
-    ensures parser_walks { ParserWalks (silent_eat_prog Reference) p (parser_tested result) tokens events reports pool }
-    ensures s_bound { tokens_left tokens.now result.p.s ≤ tokens_left tokens.now p.s }
-    ensures s_bound_2 { result.yes ≡ true → tokens_left tokens.now result.p.s ≤ tokens_left tokens.now p.s - 1 }
-{
-    let mut codes = p.codes;
-    let e = reference::silent_eat(p.s, &mut codes, tokens, events, reports, pool);
-    let s = e.s;
-    let q = Parser { codes: codes, s: s };
-    ParserTested { p: q, yes: e.yes }
-}
+// `TokenMatcher` of parser/mod.rs, and the tests and takes of its `Check`.
+pub trait TokenMatcher: Copy {
+    ghost matcher: { Matcher };
 
-pub fn reference_noamp(
-    p: Parser,
-    tokens: &[u32],
-    events: &mut [u32],
-    reports: &mut [u32],
-    pool: &mut [u32],
-) -> Parser
-    ensures parser_walks_on { ParserWalksOn reference_noamp_prog p result tokens events reports pool }
-    ensures s_bound { tokens_left tokens.now result.s ≤ tokens_left tokens.now p.s }
-{
-    let mut codes = p.codes;
-    let s = reference::reference_noamp(p.s, &mut codes, tokens, events, reports, pool);
-    Parser { codes: codes, s: s }
+    fn matches(self, p: &mut Parser) -> bool
+        ensures walks { Walks matcher.matches p.old (truth result) p.new }
+        ensures some { result ≡ true → 0 < tokens_left p.new };
+
+    fn push_expected(self, p: &mut Parser)
+        ensures { Walks matcher.push_expected p.old yes p.new };
+
+    // The matcher has matched.
+    fn consume(self, p: &mut Parser)
+        ensures walks { Walks matcher.consume p.old yes p.new }
+        ensures taken { TakesOne p.old p.new };
+
+    fn at(self, p: &mut Parser) -> bool
+        ensures walks { Walks (at_prog matcher) p.old (truth result) p.new }
+        ensures some { result ≡ true → 0 < tokens_left p.new }
+    {
+        self.push_expected(p);
+        self.matches(p)
+    }
+
+    // `check(self).silent().eat()`
+    fn silent_eat(self, p: &mut Parser) -> bool
+        ensures walks { Walks (silent_eat_prog matcher) p.old (truth result) p.new }
+        ensures taken { result ≡ true → tokens_left p.new < tokens_left p.old }
+    {
+        let matched = self.matches(p);
+        if matched {
+            self.consume(p);
+        }
+        matched
+    }
+
+    fn eat(self, p: &mut Parser) -> bool
+        ensures walks { Walks (eat_prog matcher) p.old (truth result) p.new }
+        ensures taken { result ≡ true → TakesOne p.old p.new }
+    {
+        let matched = self.matches(p);
+        if matched {
+            self.consume(p);
+        } else {
+            self.push_expected(p);
+        }
+        matched
+    }
+
+    fn expect(self, p: &mut Parser) -> bool
+        ensures walks { Walks (expect_prog matcher) p.old (truth result) p.new }
+        ensures taken { result ≡ true → TakesOne p.old p.new }
+    {
+        if self.eat(p) {
+            return true;
+        }
+        p.error(Message::Expected, None, Bump::No);
+        false
+    }
 }

@@ -34,7 +34,7 @@ impl<'a> Parser<'a> {
     // `check(matcher).silent().eat()`
     pub fn silent_eat(&mut self, m: Matcher) -> bool
         ensures walks { Walks (silent_eat_prog (matcher_of m)) self.old (truth result) self.new }
-        ensures taken { result ≡ true → TakesOne self.old self.new }
+        ensures taken { result ≡ true → tokens_left self.new < tokens_left self.old }
     {
         let matched = self.silent(m);
         if matched {

@@ -9,7 +9,7 @@ returns-then-eat c =
 pub returns-then-eat-2 : goal.returns-then-eat-2
 returns-then-eat-2 c =
     walks (λ ask b. no_case (c.eat.ensures.walks.way ask b) c.if-eat.false
-    (yes_case (c.eat-2.ensures.walks.way ask b) c.if-eat-2.true (c.eat-3.ensures.walks.way ask b)))
+    (yes_case (c.eat-2.ensures.walks.way ask b) c.if-eat-2.true (c.eat-then-eat-2.ensures.walks.way ask b)))
 
 pub returns : goal.returns
 returns c =

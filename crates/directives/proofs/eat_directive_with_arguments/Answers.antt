@@ -12,7 +12,7 @@ pub returns-then-at-2-clause-walks : goal.returns-then-at-2-clause-walks
 returns-then-at-2-clause-walks c =
     walks (λ ask b. opened arguments_are (no_case (c.at.ensures.walks.way ask b) c.if-at.false
     (yes_case (c.at-2.ensures.walks.way ask b) c.if-at-2.true
-    (marker c.start-m-2.ensures.marker c.start-m-2.ensures.becomes (seq (c.consume-2.ensures.walks.way ask b) (seq (c.delete_arguments.ensures.way ask b) (c.directive_end-2.ensures.way ask b)))))))
+    (marker c.start-m-then-at-2.ensures.marker c.start-m-then-at-2.ensures.becomes (seq (c.consume-then-at-2.ensures.walks.way ask b) (seq (c.delete_arguments.ensures.way ask b) (c.directive_end-then-at-2.ensures.way ask b)))))))
 
 pub returns-clause-walks : goal.returns-clause-walks
 returns-clause-walks c =

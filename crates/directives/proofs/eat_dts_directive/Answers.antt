@@ -1,5 +1,5 @@
 -- `eat_dts_directive`: by the directive.
-use Rattle.parser.proofs.Ways.{walks, opened, yes_case, no_case, marker, seq, stay}
+use Rattle.parser.proofs.Ways.{walks, shown, opened, yes_case, no_case, marker, seq, stay}
 use Rattle.directives.proofs.Laws.{version_is}
 use Rattle.directives.proofs.eat_dts_directive.Goals as goal
 
@@ -10,7 +10,8 @@ returns-then-at-clause-walks c =
 
 pub returns-then-eat_dts_include-clause-walks : goal.returns-then-eat_dts_include-clause-walks
 returns-then-eat_dts_include-clause-walks c =
-    walks (λ ask b. opened version_is (no_case (c.at.ensures.walks.way ask b) c.if-at.false (yes_case (c.eat_dts_include.ensures.walks.way ask b) c.if-eat_dts_include.true stay)))
+    walks (λ ask b. shown c.if-eat_dts_include.true (opened version_is (no_case (c.at.ensures.walks.way ask b) c.if-at.false
+    (yes_case (c.eat_dts_include.ensures.walks.way ask b) c.if-eat_dts_include.true stay))))
 
 pub returns-else-eat_dts_include-clause-walks : goal.returns-else-eat_dts_include-clause-walks
 returns-else-eat_dts_include-clause-walks c =
