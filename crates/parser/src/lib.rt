@@ -10,6 +10,10 @@ pub mod matcher;
 pub mod pending;
 pub mod source;
 
+ghost use Rattle.std.specs.Prelude.{◌≡◌};
+ghost use Rattle.definitions.specs.Run.{truth};
+ghost use Rattle.parser.specs.View.{ans_of};
+
 use crate::pending::Pending;
 use layout::refusal::Refusal;
 use layout::{ByteOffset, TokenIndex};
@@ -49,4 +53,12 @@ pub enum Ans {
     Yes,
     Also,
     Again,
+}
+
+impl From<bool> for Ans {
+    ghost from_gives = { λ yes ans. ans_of ans ≡ truth yes };
+
+    fn from(yes: bool) -> Ans {
+        if yes { Ans::Yes } else { Ans::No }
+    }
 }
