@@ -20,7 +20,7 @@ use Rattle.machine.proofs.Links.{linked, link_again, link_last, link_stop, chain
 use Rattle.parser.specs.declared.Parser.{Parser}
 use Rattle.parser.specs.declared.marker.Marker.{Marker}
 use Rattle.parser.specs.View.{view, toks, tokens_left, marker_of, Same, Becomes, WalksWithin}
-use Rattle.parser.proofs.Ways.{same_self, same_then, same_toks, falls}
+use Rattle.parser.proofs.Ways.{same_then, same_toks, falls}
 use Rattle.expr.specs.Chain.{turn_ans, turn_shape, TurnsWithin, links_from, LinksWithin}
 
 -- ---------------------------------------------------------------- where it begins
@@ -69,9 +69,6 @@ pub record Linking (n : ℕ) (g : Prog) (p : Parser) (m : Marker) (q : Parser) (
   pub is : links_from n (toks p) g (marker_of k) (view q) ≡ links_from n (toks p) g (marker_of m) (view p)
   pub same : Same p q
   pub left : tokens_left q ≤ tokens_left p
-
-pub linking : {n : ℕ} {g : Prog} {p : Parser} {m : Marker} → Linking n g p m p m
-linking = record { is = refl; same = same_self; left = omega arith }
 
 module _ {n : ℕ} {g : Prog} {p q r : Parser} {m k : Marker} (o : Linking n g p m q k) where
   -- a turn with the tokens of p

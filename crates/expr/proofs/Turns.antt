@@ -97,12 +97,13 @@ module _ (n min : ℕ) {l r : ℕ} {p x : Parser} (z : Becomes (look_for_infix (
           left = omega (arith, z.left, w.left);
         }
 
--- the operator of a missing left side
-pub binary_asked : (o : Option BindingPower) (b : Bool) → MatchOption o (b ≡ false) (λ op. b ≡ op.binary) → b ≡ binary_in o
-binary_asked None b e = e
-binary_asked (Some op) b e = e
+-- the operator of a missing left side, as the code asks for it
+asked : (o : Option BindingPower) (b : Bool) → MatchOption o (b ≡ false) (λ op. b ≡ op.binary) → b ≡ binary_in o
+asked None b e = e
+asked (Some op) b e = e
 
-pub sees_binary : (n : ℕ) {p x : Parser} (c : Bool) → Becomes (look_for_infix (toks p)) p x → c ≡ is_binary (kind_of (rest x))
-    → Way (walk_rule n) unlabelled None (expected E.InfixOperator ⨟ silent (set INFIX_BUT_TERNARY)) p (truth c) N.NO_NODE x
-sees_binary n {x = x} c z e =
-    record { is = (at_binary c z.is (e ∙ ap (λ (ts : List Token). is_binary (kind_of (drop x.cursor.0 ts))) (same_toks z.same))).is; same = z.same; left = z.left }
+pub sees_binary : (n : ℕ) {p x : Parser} (o : Option BindingPower) → Becomes (look_for_infix (toks p)) p x → binary_in o ≡ is_binary (kind_of (rest x))
+    → (b : Bool) → MatchOption o (b ≡ false) (λ op. b ≡ op.binary) → Way (walk_rule n) unlabelled None (expected E.InfixOperator ⨟ silent (set INFIX_BUT_TERNARY)) p (truth b) N.NO_NODE x
+sees_binary n {x = x} o z e b f =
+    let i = ap (λ (ts : List Token). is_binary (kind_of (drop x.cursor.0 ts))) (same_toks z.same) in
+    record { is = (at_binary b z.is (asked o b f ∙ e ∙ i)).is; same = z.same; left = z.left }

@@ -17,7 +17,7 @@ use Rattle.parser.specs.View.{Way}
 use Rattle.parser.proofs.Ways.{body, call, closed, node, seq, yes_case, no_case, shown, answers, told, stay}
 use Rattle.binding_power.specs.Answer.{left_in, right_in}
 use Rattle.expr.proofs.Chain.{chained, unchained, answered, goes_on, lasts, stops}
-use Rattle.expr.proofs.Turns.{told_past, righted, no_operator, weaker, ternary, other, binary_asked, sees_binary}
+use Rattle.expr.proofs.Turns.{told_past, righted, no_operator, weaker, ternary, other, sees_binary}
 use Rattle.expr.proofs.+expression.Goals.{infix_chain-in-Some+then-not-right, infix_chain-in_default, ternary_rhs-then-expr_binding_power, ternary_rhs-else-expr_binding_power}
 use Rattle.expr.proofs.+expression.Goals as goal
 
@@ -133,20 +133,20 @@ missing_lhs-returns t c =
 -- `no_lhs` is what `lhs` does where no test held.
 pub no_lhs-returns-then-is_some_and : goal.no_lhs-returns-then-is_some_and
 no_lhs-returns-then-is_some_and t c =
-    yes_case (sees_binary c.args.allowed c.is_some_and.result c.infix_op_at.ensures.becomes (binary_asked c.infix_op_at.result _ (search rules) ∙ c.infix_op_at.ensures.binary)) c.if-is_some_and.true c.missing_lhs.ensures
+    yes_case (sees_binary c.args.allowed c.infix_op_at.result c.infix_op_at.ensures.becomes c.infix_op_at.ensures.binary c.is_some_and.result (search rules)) c.if-is_some_and.true c.missing_lhs.ensures
 
 pub no_lhs-returns-then-silent_at : goal.no_lhs-returns-then-silent_at
 unfolding silent
 no_lhs-returns-then-silent_at t c =
     let ask = walk_rule c.args.allowed in
-    no_case (sees_binary c.args.allowed c.is_some_and.result c.infix_op_at.ensures.becomes (binary_asked c.infix_op_at.result _ (search rules) ∙ c.infix_op_at.ensures.binary)) c.if-is_some_and.false
+    no_case (sees_binary c.args.allowed c.infix_op_at.result c.infix_op_at.ensures.becomes c.infix_op_at.ensures.binary c.is_some_and.result (search rules)) c.if-is_some_and.false
     (yes_case (c.silent_at.ensures.walks.way ask unlabelled) c.if-silent_at.true (seq (c.error.ensures.walks.way ask unlabelled) stay))
 
 pub no_lhs-returns-else-silent_at : goal.no_lhs-returns-else-silent_at
 unfolding silent
 no_lhs-returns-else-silent_at t c =
     let ask = walk_rule c.args.allowed in
-    no_case (sees_binary c.args.allowed c.is_some_and.result c.infix_op_at.ensures.becomes (binary_asked c.infix_op_at.result _ (search rules) ∙ c.infix_op_at.ensures.binary)) c.if-is_some_and.false
+    no_case (sees_binary c.args.allowed c.infix_op_at.result c.infix_op_at.ensures.becomes c.infix_op_at.ensures.binary c.is_some_and.result (search rules)) c.if-is_some_and.false
     (no_case (c.silent_at.ensures.walks.way ask unlabelled) c.if-silent_at.false (seq (c.error-else-silent_at.ensures.walks.way ask unlabelled) stay))
 
 -- `paren_expr`: a marker around an expression in brackets.
