@@ -46,7 +46,7 @@ from : (ask : List Token → Rule → Machine → Walked) (b : Span) {p q : Pars
     → Step (ask (toks p)) (toks p) b h (view q) (walk (ask (toks q)) (toks q) b h (view q))
 from ask b {q = q} h s = record { is = ap (λ (ts : List Token). walk (ask ts) ts b h (view q)) (same_toks s) }
 
-falls : {p q r : Parser} → Same p q → Same q r → tokens_left r < tokens_left q → ahead (toks p) (view r) < ahead (toks p) (view q)
+pub falls : {p q r : Parser} → Same p q → Same q r → tokens_left r < tokens_left q → ahead (toks p) (view r) < ahead (toks p) (view q)
 unfolding tokens_left
 falls {p = p} {q = q} {r = r} s t h =
     omega (arith, length-drop q.cursor.0 (toks p), length-drop r.cursor.0 (toks p), tokens_length p.tokens.now, ap (λ t. length t.now) s.tokens, ap (λ t. length t.now) t.tokens, h)

@@ -10,6 +10,10 @@ pub mod matcher;
 pub mod pending;
 pub mod source;
 
+ghost use Rattle.std.specs.Prelude.{◌≡◌};
+ghost use Rattle.definitions.specs.Run.{truth};
+ghost use Rattle.parser.specs.View.{ans_of};
+
 use crate::pending::Pending;
 use layout::refusal::Refusal;
 use layout::{ByteOffset, TokenIndex};
@@ -52,10 +56,6 @@ pub enum Ans {
 }
 
 impl From<bool> for Ans {
-    ghost use Rattle.std.specs.Prelude.{◌≡◌};
-    ghost use Rattle.definitions.specs.Run.{truth};
-    ghost use Rattle.parser.specs.View.{ans_of};
-
     ghost from_gives = { λ yes ans. ans_of ans ≡ truth yes };
 
     fn from(yes: bool) -> Ans {
