@@ -33,6 +33,8 @@ impl<'a> Parser<'a> {
                 place: self.mark,
             });
         }
+        // No slice is longer.
+        prove!(self.tokens.len() <= PAST_THE_END.0);
         self.cursor = PAST_THE_END;
     }
 

@@ -23,7 +23,7 @@ use Rattle.expr.proofs.+expression.Goals as goal
 
 -- `expr_binding_power` is the walk of its rule: a chain from its marker on, or refusal 5.
 pub expr_binding_power-returns-then-allowed-eq0-clause-opens : goal.expr_binding_power-returns-then-allowed-eq0-clause-opens
-expr_binding_power-returns-then-allowed-eq0-clause-opens t c = closed c.if-allowed-eq0.true c.refuse.ensures
+expr_binding_power-returns-then-allowed-eq0-clause-opens t c = closed c.if-allowed-eq0.true c.refuse.ensures.becomes
 
 pub expr_binding_power-returns-then-not-lhs-clause-opens : goal.expr_binding_power-returns-then-not-lhs-clause-opens
 unfolding grammar expr_binding_power_body

@@ -21,3 +21,12 @@ returns-clause-becomes c =
         left = rw (w.self-is) (omega flags);
       }
     ]
+
+pub returns-clause-ended : goal.returns-clause-ended
+unfolding tokens_left
+returns-clause-ended c =
+    let h = c.if-prove.false in
+    elim c.if-is_none.branch [
+      | then-is_none w ↦ let k = rw w.self-is at h in rw (w.self-is) (omega (flags, k))
+      | else-is_none w ↦ let k = rw w.self-is at h in rw (w.self-is) (omega (flags, k))
+    ]
