@@ -6,7 +6,7 @@ use mathlib.Core.List.{List, [], ◌∷◌}
 use native.Mathlib.Omega.{arith}
 use lib.Dec.{leb, eqb}
 use lib.ListN.{get_or}
-use borrow.Author.Tests.{leb-true, eqb-true, eqb-false, ne_eqb}
+use borrow.Author.Tests.{leb-true, eqb-true, ne_eqb, eq-eqb, le-leb, lt-leb}
 use Rattle.basics.proofs.Below.{all_below, at_below}
 use Rattle.definitions.specs.TokenKind as K
 use Rattle.definitions.specs.Token.{one_of}
@@ -56,17 +56,30 @@ all_binary : all_below binary 256 ≡ true
 unfolding all_below binary same level_in is_binary one_of
 all_binary = refl
 
--- by the outcome of the two tests
-pub level_at : (k : ℕ) → k < 256 → (low high : Bool) → leb K.Ampersand k ≡ low → leb k K.RelationalNeq ≡ high → look low high k ≡ level_in binary_levels k
-unfolding right
-level_at k h low high e f =
-    ap (λ (c : Bool). look c high k) (sym e)
-    ∙ ap (λ (c : Bool). look (leb K.Ampersand k) c k) (sym f)
-    ∙ eqb-true (look (leb K.Ampersand k) (leb k K.RelationalNeq) k) (level_in binary_levels k) (at_below right 256 k all_right h)
+-- by where the kind stands
+module _ (k : ℕ) (h : k < 256) where
+  found : (low high : Bool) → leb K.Ampersand k ≡ low → leb k K.RelationalNeq ≡ high → look low high k ≡ level_in binary_levels k
+  unfolding right
+  found low high e f = rw (← e, ← f) (eqb-true (look (leb K.Ampersand k) (leb k K.RelationalNeq) k) (level_in binary_levels k) (at_below right 256 k all_right h))
+
+  pub level_inside : K.Ampersand ≤ k → k ≤ K.RelationalNeq → get_or table (k - K.Ampersand) 0 ≡ level_in binary_levels k
+  level_inside a b = found true true (le-leb K.Ampersand k a) (le-leb k K.RelationalNeq b)
+
+  pub level_below : k < K.Ampersand → 0 ≡ level_in binary_levels k
+  level_below a = found false (leb k K.RelationalNeq) (lt-leb K.Ampersand k a) refl
+
+  pub level_above : K.Ampersand ≤ k → K.RelationalNeq < k → 0 ≡ level_in binary_levels k
+  level_above a b = found true false (le-leb K.Ampersand k a) (lt-leb k K.RelationalNeq b)
 
 pub level_small : (k n : ℕ) → k < 256 → n ≡ level_in binary_levels k → n ≤ 10
 unfolding bounded
 level_small k n h e = let z = leb-true (level_in binary_levels k) 10 (at_below bounded 256 k all_bounded h) in omega (arith, z, e)
+
+pub inside_small : (k : ℕ) → k < 256 → K.Ampersand ≤ k → k ≤ K.RelationalNeq → get_or table (k - K.Ampersand) 0 ≤ 10
+inside_small k h a b = level_small k (get_or table (k - K.Ampersand) 0) h (level_inside k h a b)
+
+-- what `level` asks
+pub ruleset levels = (level_inside, level_below, level_above, inside_small)
 
 -- ---------------------------------------------------------------- powers, for any level
 
@@ -74,19 +87,18 @@ level_small k n h e = let z = leb-true (level_in binary_levels k) 10 (at_below b
 abbrev PowersAre : ℕ → ℕ → ℕ → Bool → Type 0
 PowersAre k l r b = (l ≡ left_of k) × ((r ≡ right_of k) × (b ≡ is_binary k))
 
-pub ternary_powers : (k : ℕ) → eqb k K.QuestionMark ≡ true → PowersAre k 2 1 false
+pub ternary_powers : PowersAre K.QuestionMark 2 1 false
 unfolding left_of right_of is_binary one_of level_in
-ternary_powers k e = let i = sym (eqb-true k K.QuestionMark e) in (ap left_of i, (ap right_of i, ap is_binary i))
+ternary_powers = (refl, (refl, refl))
 
 -- a kind that is not the ternary's, and its level
-module _ (k n : ℕ) (small : k < 256) (other : eqb k K.QuestionMark ≡ false) (e : n ≡ level_in binary_levels k) where
+module _ (k n : ℕ) (small : k < 256) (other : k ≡ K.QuestionMark → ⊥) (e : n ≡ level_in binary_levels k) where
   not_ternary : one_of (K.QuestionMark ∷ []) k ≡ false
   unfolding one_of
-  not_ternary = ap (λ (b : Bool). cond b true false) (ne_eqb K.QuestionMark k (λ i. eqb-false k K.QuestionMark other (sym i)))
+  not_ternary = ap (λ (b : Bool). cond b true false) (ne_eqb K.QuestionMark k (λ i. other (sym i)))
 
   from_level : (t : ℕ) (power : ℕ → ℕ) → worked_out power n ≡ cond (one_of (K.QuestionMark ∷ []) k) t (worked_out power (level_in binary_levels k))
-  from_level t power =
-      ap (worked_out power) e ∙ ap (λ (b : Bool). cond b t (worked_out power (level_in binary_levels k))) (sym not_ternary)
+  from_level t power = ap (worked_out power) e ∙ ap (λ (b : Bool). cond b t (worked_out power (level_in binary_levels k))) (sym not_ternary)
 
   binary_level : cond (eqb n 0) false true ≡ is_binary k
   unfolding binary
@@ -94,13 +106,19 @@ module _ (k n : ℕ) (small : k < 256) (other : eqb k K.QuestionMark ≡ false) 
       ap (λ (n : ℕ). cond (eqb n 0) false true) e
       ∙ sym (same_true (is_binary k) (cond (eqb (level_in binary_levels k) 0) false true) (at_below binary 256 k all_binary small))
 
-  -- by the outcome of the test for 0
-  pub level_powers : (none : Bool) → eqb n 0 ≡ none → PowersAre k (cond none 0 (left_power n)) (cond none 0 (right_power n)) (cond none false true)
+  -- by whether there is one
+  by_level : (none : Bool) → eqb n 0 ≡ none → PowersAre k (cond none 0 (left_power n)) (cond none 0 (right_power n)) (cond none false true)
   unfolding left_of right_of
-  level_powers none z = (
+  by_level none z = (
     ap (λ (b : Bool). cond b 0 (left_power n)) (sym z) ∙ from_level 2 left_power,
     (
       ap (λ (b : Bool). cond b 0 (right_power n)) (sym z) ∙ from_level 1 right_power,
       ap (λ (b : Bool). cond b false true) (sym z) ∙ binary_level,
     ),
   )
+
+  pub no_powers : n ≡ 0 → PowersAre k 0 0 false
+  no_powers z = by_level true (eq-eqb n 0 z)
+
+  pub level_powers : (n ≡ 0 → ⊥) → PowersAre k (left_power n) (right_power n) true
+  level_powers z = by_level false (ne_eqb n 0 z)

@@ -2,7 +2,7 @@
 // a level.
 #![tactic(auto)]
 
-ghost use Rattle.std.specs.Prelude.{◌≡◌};
+ghost use Rattle.std.specs.Prelude.{◌≡◌, ◌≤◌};
 ghost use Rattle.definitions.specs.BindingPower.{binary_levels};
 ghost use Rattle.binding_power.specs.Power.{level_in, left_of, right_of, is_binary};
 
@@ -57,7 +57,7 @@ pub const PREFIX_POWER: u8 = 23;
 
 // `InfixOp::binding_power`: left and right, 0 and 0 where the kind is not an infix operator; and whether it is one
 // other than the ternary.
-#[derive(Clone, Copy)]
+#[derive(Clone, Copy, Default)]
 pub struct BindingPower {
     pub left: u8,
     pub right: u8,
@@ -65,19 +65,15 @@ pub struct BindingPower {
 }
 
 // The level of a binary operator; 0 where the kind is not one.
+#[tactic(auto, using(crate::proofs::Powers::levels))]
 fn level(k: u8) -> u8
-    ensures { result ≡ level_in binary_levels k }
+    ensures value { result ≡ level_in binary_levels k }
+    ensures result_bound { result ≤ 10 }
 {
-    let low = FIRST_OPERATOR <= k;
-    if low {
-        let high = k <= LAST_OPERATOR;
-        if high {
-            let i = (k - FIRST_OPERATOR) as usize;
-            return LEVELS[i];
-        }
-        return 0;
+    match k {
+        FIRST_OPERATOR..=LAST_OPERATOR => LEVELS[(k - FIRST_OPERATOR) as usize],
+        _ => 0,
     }
-    0
 }
 
 pub fn binding_power(k: u8) -> BindingPower
@@ -85,29 +81,19 @@ pub fn binding_power(k: u8) -> BindingPower
     ensures right_value { result.right ≡ right_of k }
     ensures binary_value { result.binary ≡ is_binary k }
 {
-    let ternary = k == token_kind::QUESTION_MARK;
-    if ternary {
-        let binary = false;
+    if k == token_kind::QUESTION_MARK {
         return BindingPower {
             left: TERNARY_LEFT,
             right: TERNARY_RIGHT,
-            binary,
-        };
-    }
-    let n = level(k);
-    let none = n == 0;
-    if none {
-        return BindingPower {
-            left: 0,
-            right: 0,
             binary: false,
         };
     }
-    let left = 2 * n + 1;
-    let right = 2 * n + 2;
-    BindingPower {
-        left,
-        right,
-        binary: true,
+    match level(k) {
+        0 => BindingPower::default(),
+        n => BindingPower {
+            left: 2 * n + 1,
+            right: 2 * n + 2,
+            binary: true,
+        },
     }
 }

@@ -1,166 +1,178 @@
--- Laws of the row checks: one row more, and the end of the rows.
-use Prim.Native.Nat.{ℕ, suc, ◌+◌, ◌-◌, ◌*◌, ◌/◌, ◌≤◌, ◌<◌}
-use mathlib.Core.Path.{◌≡◌, refl, sym, ◌∙◌, ap}
-use mathlib.Core.Bool.{Bool, true, false, cond, ◌&&◌}
-use mathlib.Core.List.{List}
-use native.Mathlib.Omega.{arith}
-use lib.Dec.{leb, eqb}
-use lib.ListN.{length, get_or, take, drop}
-use lib.Seq.{drop-drop}
-use borrow.Author.Tests.{le-leb}
-use Rattle.basics.proofs.Tests.{and_right}
-use Rattle.basics.proofs.TokenRows.{token_at, tokens_cons, tokens_end}
-use Rattle.basics.proofs.Verdicts.{rows_sound, same_end, same_cover}
-use Rattle.definitions.specs.Layout.{TOKEN_ROW, TOKEN_LENGTH, MOST_BYTES, MOST_TOKEN_NUMBERS}
+-- Laws of the row checks: one row, one row more, and the end of the rows.
+use Rattle.std.proofs.Common.{◌≡◌, ℕ, suc, ◌+◌, ◌-◌, ◌/◌, ◌%◌, ◌≤◌, ◌<◌, true, false, ◌&&◌, List, [], ◌∷◌, length, get_or, take, drop, map, Result, Ok, Err, leb, eqb, refl, sym, subst, ◌∙◌, ap, arith}
+use Rattle.std.proofs.lemmas.Slice.{between_to_end}
+use Rattle.std.specs.Simd.{first_chunks}
+use Rattle.std.specs.Result.{IsErrAnd}
+use Rattle.std.proofs.lemmas.Bool.Decides.{nat_tests}
+use lib.Seq.{drop-cons}
+use lib.ListN.{drop_of_length-le, length-drop}
+use borrow.Author.Tests.{le-leb, eq-eqb, ne_eqb}
+use Rattle.basics.proofs.Verdicts.{rows_sound}
+use Rattle.definitions.specs.Layout.{TOKEN_ROW, MOST_BYTES, MOST_TOKEN_NUMBERS}
 use Rattle.definitions.specs.Token.{Token, tokens_of}
 use Rattle.definitions.specs.StaticText.{static_texts, fits_text}
-use Rattle.definitions.specs.Refusal.{Refusal, bad_kind, zero_length, past_input, short_total, bad_text, Verdict, accepted, refused, unless, ◌or_else◌, too_long, check_sizes, check_texts}
-use Rattle.definitions.specs.RowCauses.{is_kind, check_row, check_rows}
-use Rattle.input.specs.Checks.{is_row, row_cause, is_text}
+use Rattle.definitions.specs.Refusal.{Refusal, bad_kind, zero_length, past_input, short_total, bad_text, Verdict, accepted, refused, ◌or_else◌, too_long, odd_count, check_sizes, check_texts}
+use Rattle.definitions.specs.RowCauses.{is_kind, check_count, check_row, check_rows, check_input}
+use Rattle.input.specs.Checks.{cause_of, verdict_of, token_of}
+use Rattle.input.specs.declared.causes.Unsound.{Unsound}
 
--- the tokens from row i on
-abbrev pub from_row : List ℕ → ℕ → List Token
-from_row tokens i = drop i (tokens_of tokens)
+-- ---------------------------------------------------------------- rows as tokens
 
--- its two numbers
-abbrev kind_at : List ℕ → ℕ → ℕ
-kind_at tokens i = get_or tokens (i * TOKEN_ROW) 0
+pub tokens_rows : (tokens : List ℕ) → map token_of (first_chunks TOKEN_ROW (length tokens / TOKEN_ROW) tokens) ≡ tokens_of tokens
+unfolding tokens_of
+tokens_rows [] = refl
+tokens_rows (k ∷ []) = refl
+tokens_rows (k ∷ n ∷ l) =
+    let e : length (k ∷ n ∷ l) / TOKEN_ROW ≡ suc (length l / TOKEN_ROW) = omega arith in
+    rw e (ap (λ (ts : List Token). record { kind = k; len = n } ∷ ts) (tokens_rows l))
 
-abbrev length_at : List ℕ → ℕ → ℕ
-length_at tokens i = get_or tokens (i * TOKEN_ROW + TOKEN_LENGTH) 0
+-- the tokens of the rows from i on
+abbrev pub from_row : List (List ℕ) → ℕ → List Token
+from_row rows i = map token_of (drop i rows)
+
+from_here : (rows : List (List ℕ)) (i : ℕ) → i < length rows → from_row rows i ≡ token_of (get_or rows i []) ∷ from_row rows (i + 1)
+from_here rows i h =
+    let s : suc i ≡ i + 1 = omega arith in
+    ap (map token_of) (drop-cons rows i [] h) ∙ ap (λ (j : ℕ). token_of (get_or rows i []) ∷ from_row rows j) s
+
+past_end : (rows : List (List ℕ)) (i : ℕ) → length rows ≤ i → from_row rows i ≡ []
+past_end rows i h = ap (map token_of) (drop_of_length-le rows h)
 
 -- ---------------------------------------------------------------- causes 11 to 13
 
--- one row: its verdict by the two tests of the code
-one_row : (i start left size k n : ℕ) (b : Bool) → start + left ≡ size → is_row k n left ≡ b
-    → check_row i start size (record { kind = k; len = n }) ≡ cond b accepted (refused (row_cause i k n))
-unfolding check_row is_row row_cause ◌or_else◌
-one_row i start left size k n b h e = rw (same_end start n left size h) (rw (← e) (by (is_kind k) (leb 1 n) (leb n left)))
-  where
-    by : (x y z : Bool) → (unless x (bad_kind i) or_else unless y (zero_length i) or_else unless z (past_input i))
-        ≡ cond (x && y && z) accepted (refused (cond x (cond y (past_input i) (zero_length i)) (bad_kind i)))
-    by false y z = refl
-    by true false z = refl
-    by true true false = refl
-    by true true true = refl
+module _ (i start left k n : ℕ) where
+  pub row_kind_bad : is_kind k ≡ false → refused (bad_kind i) ≡ check_row i start (start + left) (record { kind = k; len = n })
+  unfolding check_row ◌or_else◌
+  row_kind_bad e = rw e
 
--- the rows from i on: row i and the rest
-from_here : (tokens : List ℕ) (i start size : ℕ) → i < length tokens / TOKEN_ROW
-    → check_rows i start size (from_row tokens i) ≡ (check_row i start size (token_at tokens i) or_else check_rows (suc i) (start + length_at tokens i) size (from_row tokens (i + 1)))
-unfolding check_rows
-from_here tokens i start size h = ap (check_rows i start size) (tokens_cons tokens i h)
+  pub row_empty : is_kind k ≡ true → n ≡ 0 → refused (zero_length i) ≡ check_row i start (start + left) (record { kind = k; len = n })
+  unfolding check_row ◌or_else◌
+  row_empty e z = rw (e, z)
 
--- what the loop knows at row i, where `left` of so many bytes are not yet covered
-pub record AtRow (tokens : List ℕ) (size i left : ℕ) : Type 0 where
-  pub inside : left ≤ size
-  pub as_all : check_rows i (size - left) size (from_row tokens i) ≡ check_rows 0 0 size (tokens_of tokens)
+  pub row_too_far : is_kind k ≡ true → (n ≡ 0 → ⊥) → left < n → refused (past_input i) ≡ check_row i start (start + left) (record { kind = k; len = n })
+  unfolding check_row ◌or_else◌
+  row_too_far e z l = let a : leb 1 n ≡ true = grind (arith, nat_tests) in let b : leb (start + n) (start + left) ≡ false = grind (arith, nat_tests) in rw (e, a, b)
 
-pub at_first : (tokens : List ℕ) (size : ℕ) → AtRow tokens size 0 size
-at_first tokens size =
-    let s : size - size ≡ 0 = omega arith in
-    record { inside = omega arith; as_all = ap (λ (start : ℕ). check_rows 0 start size (tokens_of tokens)) s }
+  pub row_good : is_kind k ≡ true → (n ≡ 0 → ⊥) → n ≤ left → accepted ≡ check_row i start (start + left) (record { kind = k; len = n })
+  unfolding check_row ◌or_else◌
+  row_good e z l = let a : leb 1 n ≡ true = grind (arith, nat_tests) in let b : leb (start + n) (start + left) ≡ true = grind (arith, nat_tests) in rw (e, a, b)
 
--- k, n: the row's numbers, as read
-pub at_next : (tokens : List ℕ) (size i left k n : ℕ) → i < length tokens / TOKEN_ROW → k ≡ kind_at tokens i → n ≡ length_at tokens i
-    → is_row k n left ≡ true → n ≤ left → AtRow tokens size i left → AtRow tokens size (i + 1) (left - n)
-unfolding ◌or_else◌
-at_next tokens size i left k n h e f g q a =
-    let s : suc i ≡ i + 1 = omega arith in
-    let t : size - left + length_at tokens i ≡ size - (left - n) = omega (arith, a.inside, q, f) in
-    let r : check_row i (size - left) size (token_at tokens i) ≡ accepted =
-    ap (λ (x : ℕ). check_row i (size - left) size (record { kind = x; len = length_at tokens i })) (sym e)
-    ∙ ap (λ (x : ℕ). check_row i (size - left) size (record { kind = k; len = x })) (sym f)
-    ∙ one_row i (size - left) left size k n true (omega (arith, a.inside)) g in
-    record {
-      inside = omega (arith, a.inside);
-      as_all =
-          ap (λ (start : ℕ). check_rows (i + 1) start size (from_row tokens (i + 1))) (sym t)
-          ∙ ap (λ (j : ℕ). check_rows j (size - left + length_at tokens i) size (from_row tokens (i + 1))) (sym s)
-          ∙ sym (from_here tokens i (size - left) size h ∙ ap (λ (v : Verdict). v or_else check_rows (suc i) (size - left + length_at tokens i) size (from_row tokens (i + 1))) r)
-          ∙ a.as_all;
-    }
+-- what `check_row` of the code asks
+pub ruleset row_verdicts = (row_kind_bad, row_empty, row_too_far, row_good)
 
-pub at_bad : (tokens : List ℕ) (size i left k n : ℕ) → i < length tokens / TOKEN_ROW → k ≡ kind_at tokens i → n ≡ length_at tokens i
-    → is_row k n left ≡ false → AtRow tokens size i left → refused (row_cause i k n) ≡ check_rows 0 0 size (tokens_of tokens)
-unfolding ◌or_else◌
-at_bad tokens size i left k n h e f g a =
-    let r : check_row i (size - left) size (token_at tokens i) ≡ refused (row_cause i k n) =
-    ap (λ (x : ℕ). check_row i (size - left) size (record { kind = x; len = length_at tokens i })) (sym e)
-    ∙ ap (λ (x : ℕ). check_row i (size - left) size (record { kind = k; len = x })) (sym f)
-    ∙ one_row i (size - left) left size k n false (omega (arith, a.inside)) g in
-    sym (from_here tokens i (size - left) size h ∙ ap (λ (v : Verdict). v or_else check_rows (suc i) (size - left + length_at tokens i) size (from_row tokens (i + 1))) r)
-    ∙ a.as_all
+-- the rows from i on, where so many bytes are not yet covered
+abbrev pub checked : ℕ → List (List ℕ) → ℕ → ℕ → Verdict
+checked size rows i left = check_rows i (size - left) size (from_row rows i)
 
--- after the last row, r: the count of rows
-pub at_end : (tokens : List ℕ) (size i left r : ℕ) (b : Bool) → i ≡ r → r ≡ length tokens / TOKEN_ROW → eqb left 0 ≡ b → AtRow tokens size i left
-    → unless b (short_total r) ≡ check_rows 0 0 size (tokens_of tokens)
-unfolding check_rows
-at_end tokens size i left r b e f g a =
-    ap (λ (x : Bool). unless x (short_total r)) (sym (same_cover (size - left) left size (omega (arith, a.inside)) ∙ g))
-    ∙ ap (λ (j : ℕ). unless (eqb (size - left) size) (short_total j)) (sym e)
-    ∙ sym (ap (check_rows i (size - left) size) (tokens_end tokens i (omega (arith, e, f))))
-    ∙ a.as_all
+module _ (size : ℕ) (rows : List (List ℕ)) (i left : ℕ) (h : i < length rows) (a : left ≤ size) where
+  pub row_refused : (r : Refusal) → ((start : ℕ) → refused r ≡ check_row i start (start + left) (token_of (get_or rows i []))) → refused r ≡ checked size rows i left
+  unfolding check_rows ◌or_else◌
+  row_refused r e =
+      let s : size - left + left ≡ size = omega arith in
+      let f : refused r ≡ check_row i (size - left) size (token_of (get_or rows i [])) = rw s at (e (size - left)) in
+      rw (from_here rows i h, ← f)
 
--- a refusal stays the first; after what passes the next check decides
-pub refused_first : (r : Refusal) (v w : Verdict) → refused r ≡ v → refused r ≡ (v or_else w)
-unfolding ◌or_else◌
-refused_first r v w e = ap (λ (x : Verdict). x or_else w) e
+  pub row_passed : (rest : ℕ) → ((start : ℕ) → accepted ≡ check_row i start (start + left) (token_of (get_or rows i []))) → rest + (token_of (get_or rows i [])).len ≡ left
+      → checked size rows (i + 1) rest ≡ checked size rows i left
+  unfolding check_rows ◌or_else◌
+  row_passed rest e g =
+      let s : size - left + left ≡ size = omega arith in
+      let f : accepted ≡ check_row i (size - left) size (token_of (get_or rows i [])) = rw s at (e (size - left)) in
+      let t : size - rest ≡ size - left + (token_of (get_or rows i [])).len = omega arith in
+      let n : i + 1 ≡ suc i = omega arith in
+      rw (from_here rows i h, ← f, t) (ap (λ (j : ℕ). check_rows j (size - left + (token_of (get_or rows i [])).len) size (from_row rows (i + 1))) n)
 
-pub passed_first : (u v w : Verdict) → accepted ≡ v → u ≡ w → u ≡ (v or_else w)
-unfolding ◌or_else◌
-passed_first u v w e f = f ∙ ap (λ (x : Verdict). x or_else w) e
+module _ (size : ℕ) (rows : List (List ℕ)) (i left : ℕ) (h : length rows ≤ i) (a : left ≤ size) where
+  pub rows_short : i ≤ length rows → (left ≡ 0 → ⊥) → refused (short_total (length rows)) ≡ checked size rows i left
+  unfolding check_rows
+  rows_short b z = let e : length rows ≡ i = omega arith in let f : eqb (size - left) size ≡ false = grind (arith, nat_tests) in rw (past_end rows i h, f, e)
+
+  pub rows_covered : left ≡ 0 → accepted ≡ checked size rows i left
+  unfolding check_rows
+  rows_covered z = let f : eqb (size - left) size ≡ true = grind (arith, nat_tests) in rw (past_end rows i h, f)
+
+-- an error that `?` hands on is the one that it found
+pub handed_on : {A : Type 0} (r : Result A Unsound) (e : Unsound) → IsErrAnd r (λ x. x ≡ e) → verdict_of r ≡ refused (cause_of e)
+handed_on (Ok x) e h = absurd h
+handed_on (Err x) e h = ap (λ y. refused (cause_of y)) h
 
 -- ---------------------------------------------------------------- cause 4
 
--- row i of rows that pass ends inside the input, and the rows after it pass
-row_passed : (tokens : List ℕ) (i start size : ℕ) → i < length tokens / TOKEN_ROW → check_rows i start size (from_row tokens i) ≡ accepted
-    → (start + length_at tokens i ≤ size) × (check_rows (i + 1) (start + length_at tokens i) size (from_row tokens (i + 1)) ≡ accepted)
-row_passed tokens i start size h e =
-    let s : suc i ≡ i + 1 = omega arith in
-    let g = rows_sound i start size (token_at tokens i) (from_row tokens (i + 1)) (sym (ap (check_rows i start size) (tokens_cons tokens i h)) ∙ e) in
-    (g.0.inside, ap (λ (j : ℕ). check_rows j (start + length_at tokens i) size (from_row tokens (i + 1))) (sym s) ∙ g.1)
+-- what the loop over texts knows at row i, where `rest` are the bytes from its token on
+pub record AtText (rows : List (List ℕ)) (bytes : List ℕ) (i : ℕ) (rest : List ℕ) : Type 0 where
+  pub inside : length rest ≤ length bytes
+  pub passes : check_rows 0 0 (length bytes) (map token_of rows) ≡ accepted → checked (length bytes) rows i (length rest) ≡ accepted
+  pub as_all : check_texts i rest (from_row rows i) ≡ check_texts 0 bytes (map token_of rows)
 
--- what the loop over texts knows of row i, whose token starts at a byte
-pub record AtText (tokens bytes : List ℕ) (i byte : ℕ) : Type 0 where
-  pub passes : check_rows i byte (length bytes) (from_row tokens i) ≡ accepted
-  pub as_all : check_texts i (drop byte bytes) (from_row tokens i) ≡ check_texts 0 bytes (tokens_of tokens)
+pub text_first : (rows : List (List ℕ)) (bytes : List ℕ) → AtText rows bytes 0 bytes
+text_first rows bytes = let e : length bytes - length bytes ≡ 0 = omega arith in record { inside = omega arith; passes = λ h. rw e h; as_all = refl }
 
-pub text_first : (tokens bytes : List ℕ) → check_rows 0 0 (length bytes) (tokens_of tokens) ≡ accepted → AtText tokens bytes 0 0
-text_first tokens bytes h = record { passes = h; as_all = refl }
+module _ (rows : List (List ℕ)) (bytes : List ℕ) (i : ℕ) (rest : List ℕ) (h : i < length rows) (a : AtText rows bytes i rest) where
+  abbrev t : Token
+  t = token_of (get_or rows i [])
 
--- n: the row's length, as read
-pub text_next : (tokens bytes : List ℕ) (i byte n : ℕ) → i < length tokens / TOKEN_ROW → n ≡ length_at tokens i → is_text bytes byte (kind_at tokens i) n ≡ true
-    → AtText tokens bytes i byte → AtText tokens bytes (i + 1) (byte + n)
-unfolding check_texts is_text
-text_next tokens bytes i byte n h e f a =
-    let s : suc i ≡ i + 1 = omega arith in
-    let g : fits_text static_texts (kind_at tokens i) (take n (drop byte bytes)) ≡ true = and_right (leb byte (length bytes) && leb n (length bytes - byte)) _ f in
-    record {
-      passes = rw e (row_passed tokens i byte (length bytes) h a.passes).1;
-      as_all =
-          ap (λ (l : List ℕ). check_texts (i + 1) l (from_row tokens (i + 1))) (sym (drop-drop n byte bytes))
-          ∙ sym (ap (check_texts i (drop byte bytes)) (tokens_cons tokens i h) ∙ rw (← e) (rw g (rw s)))
-          ∙ a.as_all;
-    }
+  -- where the rows pass, row i ends inside the input, and the rows after it pass
+  passed : check_rows 0 0 (length bytes) (map token_of rows) ≡ accepted → (t.len ≤ length rest) × (checked (length bytes) rows (i + 1) (length rest - t.len) ≡ accepted)
+  passed p =
+      let s : suc i ≡ i + 1 = omega arith in
+      let g = rows_sound i (length bytes - length rest) (length bytes) t (from_row rows (i + 1)) (ap (check_rows i (length bytes - length rest) (length bytes)) (sym (from_here rows i h)) ∙ a.passes p) in
+      let b : t.len ≤ length rest = omega (arith, a.inside, g.0.inside) in
+      let e : length bytes - length rest + t.len ≡ length bytes - (length rest - t.len) = omega (arith, a.inside, b) in
+      (b, ap (λ (start : ℕ). check_rows (i + 1) start (length bytes) (from_row rows (i + 1))) (sym e) ∙ (ap (λ (j : ℕ). check_rows j (length bytes - length rest + t.len) (length bytes) (from_row rows (i + 1))) (sym s) ∙ g.1))
 
-pub text_bad : (tokens bytes : List ℕ) (i byte n : ℕ) → i < length tokens / TOKEN_ROW → n ≡ length_at tokens i → is_text bytes byte (kind_at tokens i) n ≡ false
-    → AtText tokens bytes i byte → refused (bad_text i) ≡ check_texts 0 bytes (tokens_of tokens)
-unfolding check_texts is_text
-text_bad tokens bytes i byte n h e f a =
-    let p : byte + length_at tokens i ≤ length bytes = (row_passed tokens i byte (length bytes) h a.passes).0 in
-    let t : Bool = fits_text static_texts (kind_at tokens i) (take n (drop byte bytes)) in
-    let x : byte ≤ length bytes = omega (arith, p) in
-    let y : n ≤ length bytes - byte = omega (arith, p, e) in
-    let g : t ≡ false = sym (ap (λ (b : Bool). b && leb n (length bytes - byte) && t) (le-leb _ _ x) ∙ ap (λ (b : Bool). b && t) (le-leb _ _ y)) ∙ f in
-    sym (ap (check_texts i (drop byte bytes)) (tokens_cons tokens i h) ∙ rw (← e) (rw g)) ∙ a.as_all
+  after : t.len ≤ length rest → fits_text static_texts t.kind (take t.len rest) ≡ true → AtText rows bytes (i + 1) (drop t.len rest)
+  unfolding check_texts
+  after b f =
+      let s : suc i ≡ i + 1 = omega arith in
+      let n : length (drop t.len rest) ≡ length rest - t.len = length-drop t.len rest in
+      record {
+        inside = omega (arith, a.inside, n);
+        passes = λ p. rw n (passed p).1;
+        as_all = ap (λ (j : ℕ). check_texts j (drop t.len rest) (from_row rows (i + 1))) (sym s) ∙ (rw (from_here rows i h, f) at a.as_all);
+      }
 
-pub text_end : (tokens bytes : List ℕ) (i byte : ℕ) → length tokens / TOKEN_ROW ≤ i → AtText tokens bytes i byte → accepted ≡ check_texts 0 bytes (tokens_of tokens)
+  pub text_next : t.len ≤ length rest → fits_text static_texts t.kind (take t.len rest) ≡ true → AtText rows bytes (i + 1) (take (length rest - t.len) (drop t.len rest))
+  text_next b f = subst (AtText rows bytes (i + 1)) (sym (between_to_end rest t.len (length rest) (omega arith))) (after b f)
+
+  pub text_bad : check_rows 0 0 (length bytes) (map token_of rows) ≡ accepted → (t.len ≤ length rest → fits_text static_texts t.kind (take t.len rest) ≡ false) → refused (bad_text i) ≡ check_texts 0 bytes (map token_of rows)
+  unfolding check_texts
+  text_bad p f = rw (from_here rows i h, f (passed p).0) at a.as_all
+
+pub text_end : (rows : List (List ℕ)) (bytes : List ℕ) (i : ℕ) (rest : List ℕ) → length rows ≤ i → AtText rows bytes i rest → accepted ≡ check_texts 0 bytes (map token_of rows)
 unfolding check_texts
-text_end tokens bytes i byte h a = sym (ap (check_texts i (drop byte bytes)) (tokens_end tokens i h)) ∙ a.as_all
+text_end rows bytes i rest h a = rw (past_end rows i h) at a.as_all
 
--- a slice's length
-pub slice_text : (bytes : List ℕ) (byte k n : ℕ) → fits_text static_texts k (take (byte + n - byte) (drop byte bytes)) ≡ fits_text static_texts k (take n (drop byte bytes))
-slice_text bytes byte k n = let s : byte + n - byte ≡ n = omega arith in ap (λ (m : ℕ). fits_text static_texts k (take m (drop byte bytes))) s
+-- ---------------------------------------------------------------- all causes, in their order
+
+module _ (bytes tokens : List ℕ) where
+  pub long_input : (leb (length bytes) MOST_BYTES && leb (length tokens) MOST_TOKEN_NUMBERS) ≡ false → refused too_long ≡ check_input bytes tokens
+  unfolding check_input check_sizes ◌or_else◌
+  long_input e = rw e
+
+  module _ (few : length bytes ≤ MOST_BYTES) (short : length tokens ≤ MOST_TOKEN_NUMBERS) where
+    after_sizes : check_input bytes tokens ≡ (check_count tokens or_else check_rows 0 0 (length bytes) (tokens_of tokens) or_else check_texts 0 bytes (tokens_of tokens))
+    unfolding check_input check_sizes ◌or_else◌
+    after_sizes = rw (le-leb (length bytes) MOST_BYTES few, le-leb (length tokens) MOST_TOKEN_NUMBERS short)
+
+    pub odd_input : (n : ℕ) → n ≡ length tokens / TOKEN_ROW → (length tokens % TOKEN_ROW ≡ 0 → ⊥) → refused (odd_count n) ≡ check_input bytes tokens
+    unfolding check_count ◌or_else◌
+    odd_input n e z = rw (after_sizes, ne_eqb (length tokens % TOKEN_ROW) 0 z, e)
+
+    module _ (rows : List (List ℕ)) (whole : rows ≡ first_chunks TOKEN_ROW (length tokens / TOKEN_ROW) tokens) (even : length tokens % TOKEN_ROW ≡ 0) where
+      same_tokens : map token_of rows ≡ tokens_of tokens
+      same_tokens = ap (map token_of) whole ∙ tokens_rows tokens
+
+      after_count : check_input bytes tokens ≡ (check_rows 0 0 (length bytes) (map token_of rows) or_else check_texts 0 bytes (map token_of rows))
+      unfolding check_count ◌or_else◌
+      after_count = rw (after_sizes, eq-eqb (length tokens % TOKEN_ROW) 0 even, same_tokens)
+
+      pub rows_refused : (r : Refusal) → refused r ≡ check_rows 0 0 (length bytes) (map token_of rows) → refused r ≡ check_input bytes tokens
+      unfolding ◌or_else◌
+      rows_refused r e = rw (after_count, ← e)
+
+      pub rows_passed : (v : Verdict) → accepted ≡ check_rows 0 0 (length bytes) (map token_of rows) → v ≡ check_texts 0 bytes (map token_of rows) → v ≡ check_input bytes tokens
+      unfolding ◌or_else◌
+      rows_passed v e f = rw (after_count, ← e, f)
 
 -- ---------------------------------------------------------------- cause 2 at its limits
 

@@ -1,139 +1,46 @@
--- The table of spellings, TEXTS and TEXT_STARTS of static_text.rt: its rule, proved once over the whole table.
-use Prim.Native.Nat.{ℕ, zero, suc, ◌+◌, ◌-◌, ◌≤◌, ◌<◌}
-use mathlib.Core.Path.{◌≡◌, refl, sym, ◌∙◌, ap, subst⁻¹}
-use mathlib.Core.Bool.{Bool, true, false, cond, ◌&&◌, true≢false, false≢true}
-use mathlib.Core.List.{List, [], ◌∷◌}
-use native.Mathlib.Omega.{arith}
-use lib.Dec.{leb, eqb}
-use lib.ListN.{length, get_or, take, drop, length-drop}
-use borrow.Author.Tests.{leb-true, eqb-true, eqb-false, ne_eqb}
-use Rattle.basics.proofs.Tests.{and_left, and_right}
-use Rattle.basics.proofs.Below.{all_below, at_below}
-use Rattle.definitions.specs.TokenKind as K
-use Rattle.definitions.specs.StaticText.{Text, static_texts, same, fits_text}
+-- A kind's fixed spelling decides which bytes it may have.
+use Rattle.std.proofs.Common.{◌≡◌, ℕ, ◌≤◌, Bool, true, false, cond, Option, None, Some, MatchOption, List, [], ◌∷◌, eqb, refl, sym, ◌∙◌, ap, arith}
+use Rattle.std.specs.Bool.{Decides}
+use Rattle.std.proofs.lemmas.Bool.Decides.{nat_tests, same_from_decides, Decides-eqb}
+use Rattle.std.proofs.lemmas.Slice.Eq.{slice_eq-Decides}
+use Rattle.std.specs.Cmp.Lexicographic.{pointwise}
+use Rattle.std.specs.Borrow.{Bor}
 use Rattle.basics.proofs.Texts.{same_true, same_refl}
+use Rattle.definitions.specs.StaticText.{Text, static_texts, same, fits_text}
+use Rattle.input.specs.Checks.{spelling}
 
-abbrev pub texts : List ℕ
-texts =
-    44 ∷ 47 ∷ 98 ∷ 105 ∷ 116 ∷ 115 ∷ 47 ∷ 47 ∷ 111 ∷ 109 ∷ 105 ∷ 116 ∷ 45 ∷ 105 ∷ 102 ∷ 45 ∷ 110 ∷ 111 ∷ 45 ∷ 114 ∷ 101 ∷ 102 ∷ 47 ∷ 47 ∷ 105 ∷ 110 ∷ 99 ∷ 108 ∷ 117 ∷ 100 ∷ 101 ∷ 47 ∷ 47 ∷ 109 ∷ 101 ∷ 109 ∷ 114 ∷ 101 ∷ 115 ∷ 101 ∷ 114 ∷ 118 ∷ 101 ∷ 47 ∷ 47 ∷ 100 ∷ 101 ∷ 108 ∷ 101 ∷ 116 ∷ 101 ∷ 45 ∷ 110 ∷ 111 ∷ 100 ∷ 101 ∷ 47 ∷ 47 ∷ 100 ∷ 101 ∷ 108 ∷ 101 ∷ 116 ∷ 101 ∷ 45 ∷ 112 ∷ 114 ∷ 111 ∷ 112 ∷ 101 ∷ 114 ∷ 116 ∷ 121 ∷ 47 ∷ 47 ∷ 100 ∷ 116 ∷ 115 ∷ 45 ∷ 118 ∷ 49 ∷ 47 ∷ 47 ∷ 112 ∷ 108 ∷ 117 ∷ 103 ∷ 105 ∷ 110 ∷ 47 ∷ 61 ∷ 59 ∷ 38 ∷ 58 ∷ 64 ∷ 123 ∷ 125 ∷ 60 ∷ 62 ∷ 40 ∷ 41 ∷ 43 ∷ 45 ∷ 42 ∷ 47 ∷ 37 ∷ 124 ∷ 94 ∷ 126 ∷ 60 ∷ 60 ∷ 62 ∷ 62 ∷ 38 ∷ 38 ∷ 124 ∷ 124 ∷ 33 ∷ 60 ∷ 61 ∷ 62 ∷ 61 ∷ 61 ∷ 61 ∷ 33 ∷ 61 ∷ 63 ∷ []
-
-abbrev pub starts : List ℕ
-starts =
-    0 ∷ 0 ∷ 0 ∷ 1 ∷ 1 ∷ 1 ∷ 1 ∷ 1 ∷ 1 ∷ 1 ∷ 1 ∷ 1 ∷ 1 ∷ 1 ∷ 1 ∷ 1 ∷ 1 ∷ 1 ∷ 7 ∷ 23 ∷ 32 ∷ 44 ∷ 57 ∷ 74 ∷ 82 ∷ 90 ∷ 90 ∷ 90 ∷ 90 ∷ 91 ∷ 92 ∷ 93 ∷ 94 ∷ 95 ∷ 95 ∷ 95 ∷ 95 ∷ 95 ∷ 96 ∷ 97 ∷ 98 ∷ 99 ∷ 100 ∷ 101 ∷ 102 ∷ 103 ∷ 104 ∷ 105 ∷ 106 ∷ 107 ∷ 108 ∷ 109 ∷ 111 ∷ 113 ∷ 115 ∷ 117 ∷ 118 ∷ 120 ∷ 122 ∷ 124 ∷ 126 ∷ 127 ∷ []
-
--- the bytes of a kind in TEXTS
-abbrev pub slice : ℕ → List ℕ
-slice k = take (get_or starts (k + 1) 0 - get_or starts k 0) (drop (get_or starts k 0) texts)
-
--- the spelling of a kind in the definitions' table, or none
-unfoldable lookup : List Text → ℕ → List ℕ
-lookup [] k = []
-lookup (e ∷ es) k = cond (eqb e.kind k) e.text (lookup es k)
-
-abbrev free_or_same : List ℕ → List ℕ → Bool
-free_or_same [] bytes = true
-free_or_same (x ∷ xs) bytes = same (x ∷ xs) bytes
-
-abbrev is_empty : List ℕ → Bool
-is_empty [] = true
-is_empty (x ∷ xs) = false
-
--- ---------------------------------------------------------------- the definitions' table by look-up
-
--- every text has a byte, and every kind is one of `TokenKind`
-unfoldable sound : List Text → Bool
-sound [] = true
-sound (e ∷ es) = (cond (is_empty e.text) false true && leb e.kind K.QuestionMark) && sound es
-
-static_texts_sound : sound static_texts ≡ true
-unfolding sound
-static_texts_sound = refl
-
-full : (t bytes : List ℕ) → cond (is_empty t) false true ≡ true → same t bytes ≡ free_or_same t bytes
-full [] bytes h = absurd (false≢true h)
-full (x ∷ xs) bytes h = refl
-
-by_lookup : (es : List Text) (k : ℕ) (bytes : List ℕ) → sound es ≡ true → fits_text es k bytes ≡ free_or_same (lookup es k) bytes
-unfolding sound lookup fits_text
-by_lookup [] k bytes h = refl
-by_lookup (e ∷ es) k bytes h =
-    go (eqb e.kind k) (by_lookup es k bytes (and_right (cond (is_empty e.text) false true && leb e.kind K.QuestionMark) (sound es) h))
+pub free : (es : List Text) (k : ℕ) (bytes : List ℕ) → spelling es k ≡ None → fits_text es k bytes ≡ true
+unfolding spelling fits_text
+free [] k bytes h = refl
+free (e ∷ es) k bytes h = go (eqb e.kind k) (free es k bytes) h
   where
-    go : (b : Bool) → fits_text es k bytes ≡ free_or_same (lookup es k) bytes → cond b (same e.text bytes) (fits_text es k bytes) ≡ free_or_same (cond b e.text (lookup es k)) bytes
-    go true r = full e.text bytes (and_left (cond (is_empty e.text) false true) (leb e.kind K.QuestionMark) (and_left _ (sound es) h))
-    go false r = r
+    go : (b : Bool) → (spelling es k ≡ None → fits_text es k bytes ≡ true) → cond b (Some e.text) (spelling es k) ≡ None → cond b (same e.text bytes) (fits_text es k bytes) ≡ true
+    go true f p = cc
+    go false f p = f p
 
--- a kind above the last of `TokenKind` has none
-none_above : (es : List Text) (k : ℕ) (bytes : List ℕ) → sound es ≡ true → K.QuestionMark < k → fits_text es k bytes ≡ true
-unfolding sound fits_text
-none_above [] k bytes h l = refl
-none_above (e ∷ es) k bytes h l =
-    let a = leb-true e.kind K.QuestionMark (and_right (cond (is_empty e.text) false true) (leb e.kind K.QuestionMark) (and_left _ (sound es) h)) in
-    rw (ne_eqb e.kind k (λ q. absurd (omega (arith, a, q, l)))) (none_above es k bytes (and_right (cond (is_empty e.text) false true && leb e.kind K.QuestionMark) (sound es) h) l)
-
-pub above : (k : ℕ) (bytes : List ℕ) → K.QuestionMark < k → fits_text static_texts k bytes ≡ true
-above k bytes h = none_above static_texts k bytes static_texts_sound h
-
--- ---------------------------------------------------------------- the rule of TEXTS and TEXT_STARTS
-
--- of a kind: its bytes lie in TEXTS, and they are the definitions' spelling
-unfoldable right : ℕ → Bool
-right k = (leb (get_or starts k 0) (get_or starts (k + 1) 0) && leb (get_or starts (k + 1) 0) 127) && same (lookup static_texts k) (slice k)
-
-table_right : all_below right (suc K.QuestionMark) ≡ true
-unfolding all_below right lookup same
-table_right = refl
-
--- a kind's bytes in TEXTS: where they lie, and what they say
-pub record Rule (k : ℕ) : Type 0 where
-  pub ordered : get_or starts k 0 ≤ get_or starts (k + 1) 0
-  pub inside : get_or starts (k + 1) 0 ≤ 127
-  pub says : (bytes : List ℕ) → fits_text static_texts k bytes ≡ free_or_same (slice k) bytes
-
-pub rule : (k : ℕ) → k ≤ K.QuestionMark → Rule k
-unfolding right
-rule k h =
-    let r = at_below right (suc K.QuestionMark) k table_right (omega (arith, h)) in
-    let a : Bool = leb (get_or starts k 0) (get_or starts (k + 1) 0) in
-    let b : Bool = leb (get_or starts (k + 1) 0) 127 in
-    let ab = and_left (a && b) (same (lookup static_texts k) (slice k)) r in
-    let e = same_true (lookup static_texts k) (slice k) (and_right (a && b) (same (lookup static_texts k) (slice k)) r) in
-    record {
-      ordered = leb-true _ _ (and_left a b ab);
-      inside = leb-true _ _ (and_right a b ab);
-      says = λ bytes. by_lookup static_texts k bytes static_texts_sound ∙ ap (λ (l : List ℕ). free_or_same l bytes) e;
-    }
-
--- ---------------------------------------------------------------- as the function holds it
-
--- s, e: where the kind's bytes start and end in TEXTS
-pub spelled_free : (k s e : ℕ) (bytes : List ℕ) → k ≤ K.QuestionMark → s ≡ get_or starts k 0 → e ≡ get_or starts (k + 1) 0 → eqb s e ≡ true → true ≡ fits_text static_texts k bytes
-spelled_free k s e bytes h f g q =
-    let z : get_or starts (k + 1) 0 - get_or starts k 0 ≡ 0 = omega (arith, f, g, eqb-true s e q) in
-    sym ((rule k h).says bytes ∙ ap (λ (n : ℕ). free_or_same (take n (drop (get_or starts k 0) texts)) bytes) z)
-
-some : (n : ℕ) (l bytes : List ℕ) → 0 < n → 0 < length l → free_or_same (take n l) bytes ≡ same (take n l) bytes
-some zero l bytes a b = absurd (omega (arith, a))
-some (suc n) [] bytes a b = absurd (omega (arith, b))
-some (suc n) (x ∷ xs) bytes a b = refl
-
--- a test that holds just where the lists are equal
-tested : (r : Bool) (a b : List ℕ) → (r ≡ true → a ≡ b) → (a ≡ b → r ≡ true) → r ≡ same a b
-tested r a b f g = go r refl (same a b) refl
+fixed : (es : List Text) (k : ℕ) (bytes t : List ℕ) → spelling es k ≡ Some t → fits_text es k bytes ≡ same t bytes
+unfolding spelling fits_text
+fixed [] k bytes t h = cc
+fixed (e ∷ es) k bytes t h = go (eqb e.kind k) (fixed es k bytes t) h
   where
-    go : (x : Bool) → r ≡ x → (y : Bool) → same a b ≡ y → r ≡ same a b
-    go true p true q = p ∙ sym q
-    go false p false q = p ∙ sym q
-    go true p false q = absurd (true≢false (sym (same_refl b) ∙ ap (λ (l : List ℕ). same l b) (sym (f p)) ∙ q))
-    go false p true q = absurd (true≢false (sym (g (same_true a b q)) ∙ p))
+    go : (b : Bool) → (spelling es k ≡ Some t → fits_text es k bytes ≡ same t bytes) → cond b (Some e.text) (spelling es k) ≡ Some t → cond b (same e.text bytes) (fits_text es k bytes) ≡ same t bytes
+    go true f p = let q : e.text ≡ t = cc in ap (λ l. same l bytes) q
+    go false f p = f p
 
-pub spelled_same : (k s e : ℕ) (bytes : List ℕ) (r : Bool) → k ≤ K.QuestionMark → s ≡ get_or starts k 0 → e ≡ get_or starts (k + 1) 0 → eqb s e ≡ false
-    → (r ≡ true → take (e - s) (drop s texts) ≡ bytes) × (take (e - s) (drop s texts) ≡ bytes → r ≡ true) → r ≡ fits_text static_texts k bytes
-spelled_same k s e bytes r h f g q t =
-    let u = rule k h in
-    let a : 0 < e - s = omega (arith, f, g, u.ordered, eqb-false s e q) in
-    let b : 0 < length (drop s texts) = subst⁻¹ (λ (n : ℕ). 0 < n) (length-drop s texts) (omega (arith, f, g, u.ordered, u.inside, eqb-false s e q)) in
-    let v : free_or_same (slice k) bytes ≡ same (take (e - s) (drop s texts)) bytes =
-    ap (λ (n : ℕ). free_or_same (take (get_or starts (k + 1) 0 - n) (drop n texts)) bytes) (sym f)
-    ∙ ap (λ (n : ℕ). free_or_same (take (n - s) (drop s texts)) bytes) (sym g) ∙ some (e - s) (drop s texts) bytes a b in
-    tested r (take (e - s) (drop s texts)) bytes t.0 t.1 ∙ sym v ∙ sym (u.says bytes)
+same-Decides : (a b : List ℕ) → Decides (same a b) (a ≡ b)
+same-Decides a b = (same_true a b, λ e. ap (λ l. same a l) (sym e) ∙ same_refl a)
+
+-- by what the code finds, r, and by whether the bytes are that
+pub by_spelling : (k : ℕ) (bytes : List ℕ) (r : Option (Bor (List ℕ))) (b : Bool) → MatchOption r (spelling static_texts k ≡ None) (λ t. spelling static_texts k ≡ Some t.now)
+    → MatchOption r (b ≡ true) (λ t. b ≡ pointwise eqb t.now bytes) → b ≡ fits_text static_texts k bytes
+by_spelling k bytes None b h e = e ∙ sym (free static_texts k bytes h)
+by_spelling k bytes (Some t) b h e =
+    same_from_decides b (same t.now bytes) (slice_eq-Decides Decides-eqb t.now bytes b e) (same-Decides t.now bytes) ∙ sym (fixed static_texts k bytes t.now h)
+
+none_above : (k : ℕ) → 256 ≤ k → spelling static_texts k ≡ None
+unfolding spelling
+none_above k h = grind (arith, nat_tests)
+
+-- no number past a byte has one
+pub above : (k : ℕ) (bytes : List ℕ) → 256 ≤ k → fits_text static_texts k bytes ≡ true
+above k bytes h = free static_texts k bytes (none_above k h)

@@ -1,38 +1,32 @@
--- The answers of the row checks, in the terms of `definitions`.
-use Rattle.std.specs.Prelude.{ℕ, ◌-◌, Bool, cond, ◌&&◌, List, leb, length, take, drop}
-use Rattle.definitions.specs.StaticText.{static_texts, fits_text}
+-- The answers of the checks, in the terms of `definitions`.
+use Rattle.std.specs.Prelude.{ℕ, cond, Option, None, Some, List, [], ◌∷◌, eqb, get_or, Result, Ok, Err}
+use Rattle.definitions.specs.Layout.{TOKEN_LENGTH}
+use Rattle.definitions.specs.StaticText.{Text}
+use Rattle.definitions.specs.Token.{Token}
 use Rattle.definitions.specs.Refusal.{Refusal, too_long, odd_count, bad_kind, zero_length, past_input, short_total, bad_text, Verdict, accepted, refused}
-use Rattle.definitions.specs.RowCauses.{is_kind}
-use Rattle.input.specs.declared.causes.Checked.{Checked}
-use Rattle.input.specs.declared.causes.Checked.TheVariants.{Sound, TooLong, OddCount, BadKind, ZeroLength, PastInput, ShortTotal, BadText}
-use Rattle.input.specs.declared.causes.Found.{Found}
-use Rattle.input.specs.declared.causes.Found.TheVariants.{At, Nothing}
+use Rattle.input.specs.declared.causes.Unsound.{Unsound}
+use Rattle.input.specs.declared.causes.Unsound.TheVariants.{TooLong, OddCount, BadKind, ZeroLength, PastInput, ShortTotal, BadText}
 
--- what an answer means: `number_of_lem` and `place_of` of `definitions` give its numbers
-abbrev pub verdict_of : Checked → Verdict
-verdict_of Sound = accepted
-verdict_of TooLong = refused too_long
-verdict_of (OddCount i) = refused (odd_count i.0)
-verdict_of (BadKind i) = refused (bad_kind i.0)
-verdict_of (ZeroLength i) = refused (zero_length i.0)
-verdict_of (PastInput i) = refused (past_input i.0)
-verdict_of (ShortTotal i) = refused (short_total i.0)
-verdict_of (BadText i) = refused (bad_text i.0)
+-- what is wrong: `number_of` and `place_of` of `definitions` give its numbers
+abbrev pub cause_of : Unsound → Refusal
+cause_of TooLong = too_long
+cause_of (OddCount i) = odd_count i.0
+cause_of (BadKind i) = bad_kind i.0
+cause_of (ZeroLength i) = zero_length i.0
+cause_of (PastInput i) = past_input i.0
+cause_of (ShortTotal i) = short_total i.0
+cause_of (BadText i) = bad_text i.0
 
--- a row that one cause found, or none
-abbrev pub found : (ℕ → Refusal) → Found → Verdict
-found f (At i) = refused (f i)
-found f Nothing = accepted
+-- what an answer means
+abbrev pub verdict_of : {A : Type 0} → Result A Unsound → Verdict
+verdict_of (Ok x) = accepted
+verdict_of (Err e) = refused (cause_of e)
 
--- a row with none of 11 to 13, with so many bytes not yet covered
-unfoldable pub is_row : ℕ → ℕ → ℕ → Bool
-is_row k n left = is_kind k && leb 1 n && leb n left
+-- a row as a token
+abbrev pub token_of : List ℕ → Token
+token_of r = record { kind = get_or r 0 0; len = get_or r TOKEN_LENGTH 0 }
 
--- which of 11 to 13 row i has, where it has one
-unfoldable pub row_cause : ℕ → ℕ → ℕ → Refusal
-unfolding is_kind
-row_cause i k n = cond (is_kind k) (cond (leb 1 n) (past_input i) (zero_length i)) (bad_kind i)
-
--- cause 4 of one row, whose token starts at a byte
-unfoldable pub is_text : List ℕ → ℕ → ℕ → ℕ → Bool
-is_text bytes byte kind n = leb byte (length bytes) && leb n (length bytes - byte) && fits_text static_texts kind (take n (drop byte bytes))
+-- the fixed spelling of a kind in a table, if it has one
+unfoldable pub spelling : List Text → ℕ → Option (List ℕ)
+spelling [] k = None
+spelling (e ∷ es) k = let r = spelling es k in cond (eqb e.kind k) (Some e.text) r

@@ -1,22 +1,18 @@
 // The checks of a call's input: causes 2, 3, 11 to 13 and 4, in that order, 11 to 13 over all rows before 4.
-ghost use Rattle.std.specs.Prelude.{◌≡◌, true, false, not, ◌&&◌, ◌+◌, ◌-◌, ◌≤◌, leb, length};
-ghost use Rattle.definitions.specs.Layout.{MOST_BYTES, MOST_TOKEN_NUMBERS};
-ghost use Rattle.definitions.specs.Token.{tokens_of};
-ghost use Rattle.definitions.specs.Refusal.{bad_text, accepted, refused, ◌or_else◌, check_texts};
-ghost use Rattle.definitions.specs.RowCauses.{is_kind, check_rows, check_input};
-ghost use Rattle.input.specs.Checks.{verdict_of, found, is_row, row_cause, is_text};
+ghost use Rattle.std.specs.Prelude.{◌≡◌, ℕ, ◌+◌, ◌<◌, length, map, IfOk};
+ghost use Rattle.definitions.specs.Refusal.{accepted, check_texts, number_of, place_of};
+ghost use Rattle.definitions.specs.RowCauses.{is_kind, check_row, check_rows, check_input};
+ghost use Rattle.input.specs.Checks.{cause_of, verdict_of, token_of};
 
-use crate::static_text;
+use crate::static_text::is_spelled;
 use layout::limit::{MOST_BYTES, MOST_TOKEN_NUMBERS};
-use layout::row::{TOKEN_LENGTH, TOKEN_ROW};
+use layout::row::TOKEN_ROW;
 use layout::token_kind::{FIRST_LEX_ERROR, LAST_LEX_ERROR};
-use layout::word::wide;
-use layout::{TokenIndex, row_kind};
+use layout::{TokenIndex, refusal, row_kind};
 
-// What the checks find. A row's place is its index.
-#[derive(Clone, Copy)]
-pub enum Checked {
-    Sound,
+// What is wrong with an input. A row's place is its index.
+#[derive(Clone, Copy, Debug, PartialEq, Eq)]
+pub enum Unsound {
     // Cause 2.
     TooLong,
     // Cause 3: a number is left over after so many whole rows.
@@ -33,167 +29,110 @@ pub enum Checked {
     BadText(TokenIndex),
 }
 
-// A row index, or none.
-#[derive(Clone, Copy)]
-pub enum Found {
-    At(usize),
-    Nothing,
+impl Unsound {
+    // The cause's number.
+    #[tactic(auto, unfolding(definitions::specs::Refusal::number_of))]
+    pub fn number(self) -> u32
+        ensures value { result ≡ number_of (cause_of self) }
+        ensures nonzero { 0 < result }
+    {
+        match self {
+            Self::TooLong => refusal::TOO_LONG,
+            Self::OddCount(_) => refusal::ODD_COUNT,
+            Self::BadKind(_) => refusal::BAD_KIND,
+            Self::ZeroLength(_) => refusal::ZERO_LENGTH,
+            Self::PastInput(_) | Self::ShortTotal(_) => refusal::BAD_END,
+            Self::BadText(_) => refusal::BAD_TEXT,
+        }
+    }
+
+    // Its place; 0 where it has none.
+    #[tactic(auto, unfolding(definitions::specs::Refusal::place_of))]
+    pub fn place(self) -> usize
+        ensures { result ≡ place_of (cause_of self) }
+    {
+        match self {
+            Self::TooLong => 0,
+            Self::OddCount(i)
+            | Self::BadKind(i)
+            | Self::ZeroLength(i)
+            | Self::PastInput(i)
+            | Self::ShortTotal(i)
+            | Self::BadText(i) => i.0,
+        }
+    }
 }
 
 // Unrecognized and Name are made by the parser alone; 61 to 63 and what is above the last of `LexError` are not kinds.
+#[tactic(auto, using(std::proofs::lemmas::Bool::Decides::nat_tests), unfolding(definitions::specs::RowCauses::is_kind))]
 fn is_input_kind(kind: u32) -> bool
     ensures { result ≡ is_kind kind }
 {
-    let token = kind <= row_kind::QUESTION_MARK;
-    if token {
-        let unrecognized = kind == row_kind::UNRECOGNIZED;
-        if unrecognized {
-            false
-        } else {
-            let name = kind == row_kind::NAME;
-            if name { false } else { true }
-        }
-    } else {
-        let error = FIRST_LEX_ERROR <= kind;
-        if error { kind <= LAST_LEX_ERROR } else { false }
+    match kind {
+        row_kind::UNRECOGNIZED | row_kind::NAME => false,
+        0..=row_kind::QUESTION_MARK | FIRST_LEX_ERROR..=LAST_LEX_ERROR => true,
+        _ => false,
     }
 }
 
-// Whether a row has none of 11 to 13, where `left` bytes of the input are not yet covered.
-fn is_good_row(kind: u32, n: usize, left: usize) -> bool
-    ensures value { result ≡ is_row kind n left }
-    ensures n_le_left { result ≡ true → n ≤ left }
-{
-    let known = is_input_kind(kind);
-    if known {
-        let some = 1 <= n;
-        if some { n <= left } else { false }
-    } else {
-        false
-    }
-}
-
-// Which of 11 to 13 a row has that is not good: in this order, so that 13 is what remains.
-fn row_cause(kind: u32, n: usize, at: usize) -> Checked
-    ensures { verdict_of result ≡ refused (row_cause at kind n) }
-{
-    let known = is_input_kind(kind);
-    if known {
-        let some = 1 <= n;
-        if some {
-            Checked::PastInput(TokenIndex(at))
-        } else {
-            Checked::ZeroLength(TokenIndex(at))
-        }
-    } else {
-        Checked::BadKind(TokenIndex(at))
-    }
-}
-
-// Cause 4 of one row, whose token starts at this byte.
-fn is_good_text(bytes: &[u8], byte: usize, kind: u32, n: usize) -> bool
-    ensures value { result ≡ is_text bytes.now byte kind n }
-    ensures n_in_bounds { result ≡ true → byte + n ≤ length bytes.now }
-{
-    let started = byte <= bytes.len();
-    if started {
-        let inside = n <= bytes.len() - byte;
-        if inside {
-            let end = byte + n;
-            static_text::is_spelled(kind, &bytes[byte..end])
-        } else {
-            false
-        }
-    } else {
-        false
-    }
-}
-
-// Cause 4.
-fn find_bad_text(bytes: &[u8], tokens: &[u32]) -> Found
-    ensures { check_rows 0 0 (length bytes.now) (tokens_of tokens.now) ≡ accepted
-        → found bad_text result ≡ check_texts 0 bytes.now (tokens_of tokens.now) }
-{
-    let count = tokens.len() / TOKEN_ROW;
-    let mut byte: usize = 0;
-    let mut at: usize = 0;
-    while at < count {
-        let n = wide(tokens[at * TOKEN_ROW + TOKEN_LENGTH]);
-        let good = is_good_text(bytes, byte, tokens[at * TOKEN_ROW], n);
-        if good {
-            byte += n;
-            at += 1;
-        } else {
-            return Found::At(at);
-        }
-    }
-    Found::Nothing
-}
-
-// Cause 2.
-fn is_too_long(byte_count: usize, number_count: usize) -> bool
-    ensures { not result ≡ (leb byte_count MOST_BYTES && leb number_count MOST_TOKEN_NUMBERS) }
-{
-    let short = byte_count <= MOST_BYTES;
-    if short {
-        let few = number_count <= MOST_TOKEN_NUMBERS;
-        if few { false } else { true }
-    } else {
-        true
-    }
-}
-
-pub fn check(bytes: &[u8], tokens: &[u32]) -> Checked
+pub fn check(bytes: &[u8], tokens: &[u32]) -> Result<(), Unsound>
     ensures { verdict_of result ≡ check_input bytes.now tokens.now }
 {
-    let long = is_too_long(bytes.len(), tokens.len());
-    if long {
-        return Checked::TooLong;
+    if MOST_BYTES < bytes.len() || MOST_TOKEN_NUMBERS < tokens.len() {
+        return Err(Unsound::TooLong);
     }
-    let whole = tokens.len() % TOKEN_ROW == 0;
-    if whole {
-        check_rows(bytes, tokens)
-    } else {
-        Checked::OddCount(TokenIndex(tokens.len() / TOKEN_ROW))
+    let (rows, left_over) = tokens.as_chunks::<TOKEN_ROW>();
+    if !left_over.is_empty() {
+        return Err(Unsound::OddCount(TokenIndex(rows.len())));
     }
+    check_rows(bytes.len(), rows)?;
+    check_texts(bytes, rows)
 }
 
-// Causes 11 to 13 over all rows, then 4. What is left of the input is compared with a row's length: no sum is made that
-// could pass a number's width.
-fn check_rows(bytes: &[u8], tokens: &[u32]) -> Checked
-    ensures { verdict_of result ≡ (check_rows 0 0 (length bytes.now) (tokens_of tokens.now)
-        or_else check_texts 0 bytes.now (tokens_of tokens.now)) }
+// Causes 11 to 13 over all rows. What is left of the input is compared with a row's length: no sum is made that could
+// pass a number's width.
+fn check_rows(size: usize, rows: &[[u32; TOKEN_ROW]]) -> Result<(), Unsound>
+    ensures { verdict_of result ≡ check_rows 0 0 size (map token_of rows.now) }
 {
-    let count = tokens.len() / TOKEN_ROW;
-    let mut left = bytes.len();
-    let mut at: usize = 0;
-    while at < count {
-        let kind = tokens[at * TOKEN_ROW];
-        let n = wide(tokens[at * TOKEN_ROW + TOKEN_LENGTH]);
-        let good = is_good_row(kind, n, left);
-        if good {
-            left -= n;
-            at += 1;
-        } else {
-            return row_cause(kind, n, at);
-        }
+    let mut left = size;
+    for (i, &[kind, len]) in rows.iter().enumerate() {
+        left = check_row(kind, len as usize, left, TokenIndex(i))?;
     }
-    let covered = left == 0;
-    if covered {
-        check_texts(bytes, tokens)
+    if left != 0 {
+        return Err(Unsound::ShortTotal(TokenIndex(rows.len())));
+    }
+    Ok(())
+}
+
+// Which of 11 to 13 a row has, where `left` bytes of the input are not yet covered; or what is left after it.
+#[tactic(auto, using(crate::proofs::RowChecks::row_verdicts))]
+fn check_row(kind: u32, n: usize, left: usize, at: TokenIndex) -> Result<usize, Unsound>
+    ensures value { (start : ℕ) → verdict_of result ≡ check_row at.0 start (start + left) (record { kind = kind; len = n }) }
+    ensures rest { IfOk result (λ rest. rest + n ≡ left) }
+{
+    if !is_input_kind(kind) {
+        Err(Unsound::BadKind(at))
+    } else if n == 0 {
+        Err(Unsound::ZeroLength(at))
+    } else if n <= left {
+        Ok(left - n)
     } else {
-        Checked::ShortTotal(TokenIndex(count))
+        Err(Unsound::PastInput(at))
     }
 }
 
 // Cause 4, after 11 to 13.
-fn check_texts(bytes: &[u8], tokens: &[u32]) -> Checked
-    ensures { check_rows 0 0 (length bytes.now) (tokens_of tokens.now) ≡ accepted
-        → verdict_of result ≡ check_texts 0 bytes.now (tokens_of tokens.now) }
+fn check_texts(bytes: &[u8], rows: &[[u32; TOKEN_ROW]]) -> Result<(), Unsound>
+    ensures { check_rows 0 0 (length bytes.now) (map token_of rows.now) ≡ accepted
+        → verdict_of result ≡ check_texts 0 bytes.now (map token_of rows.now) }
 {
-    let text = find_bad_text(bytes, tokens);
-    match text {
-        Found::At(at) => Checked::BadText(TokenIndex(at)),
-        Found::Nothing => Checked::Sound,
+    let mut rest = bytes;
+    for (i, &[kind, len]) in rows.iter().enumerate() {
+        let n = len as usize;
+        if rest.len() < n || !is_spelled(kind, &rest[..n]) {
+            return Err(Unsound::BadText(TokenIndex(i)));
+        }
+        rest = &rest[n..];
     }
+    Ok(())
 }

@@ -3,30 +3,18 @@
 #![tactic(auto)]
 
 use input::causes;
-use input::causes::Checked;
-use layout::refusal;
 use std::io;
 use std::io::{BufWriter, Stdout, Write};
 
 // Standard output behind a buffer.
 type Out = BufWriter<Stdout>;
 
-fn line(out: &mut Out, number: u64, place: usize) -> io::Result<()> {
-    writeln!(out, "{number} {place}")
-}
-
 fn show(out: &mut Out, bytes: &[u8], tokens: &[u32]) -> io::Result<()> {
-    let checked = causes::check(bytes, tokens);
-    match checked {
-        Checked::Sound => line(out, 0, 0),
-        Checked::TooLong => line(out, refusal::TOO_LONG as u64, 0),
-        Checked::OddCount(i) => line(out, refusal::ODD_COUNT as u64, i.0),
-        Checked::BadKind(i) => line(out, refusal::BAD_KIND as u64, i.0),
-        Checked::ZeroLength(i) => line(out, refusal::ZERO_LENGTH as u64, i.0),
-        Checked::PastInput(i) => line(out, refusal::BAD_END as u64, i.0),
-        Checked::ShortTotal(i) => line(out, refusal::BAD_END as u64, i.0),
-        Checked::BadText(i) => line(out, refusal::BAD_TEXT as u64, i.0),
-    }
+    let (number, place) = match causes::check(bytes, tokens) {
+        Ok(()) => (0, 0),
+        Err(cause) => (cause.number(), cause.place()),
+    };
+    writeln!(out, "{number} {place}")
 }
 
 // The most token numbers, 65,536 rows of a comment of one byte, and one number more. (An array of as many bytes as

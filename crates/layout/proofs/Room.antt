@@ -45,3 +45,6 @@ chunk_row n buffer i rows r e h q =
       inside = h;
       numbers = λ k b. ap (λ l. get_or l k 0) same ∙ (get_or-take n (drop (i * n) buffer) k 0 b ∙ get_or-drop (i * n) buffer k 0);
     }
+
+-- what `put_row` and `field` ask
+pub ruleset room = (nat_tests, copied)

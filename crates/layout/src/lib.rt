@@ -21,9 +21,9 @@ pub mod word;
 pub mod word_set;
 
 // A byte offset in the input. It never stands for a token index.
-#[derive(Clone, Copy)]
+#[derive(Clone, Copy, Debug, PartialEq, Eq, PartialOrd, Ord)]
 pub struct ByteOffset(pub u32);
 
 // An index among the token rows. It never stands for a byte offset.
-#[derive(Clone, Copy)]
+#[derive(Clone, Copy, Debug, PartialEq, Eq, PartialOrd, Ord)]
 pub struct TokenIndex(pub usize);

@@ -21,11 +21,5 @@ pub const QUESTION_MARK: u32 = token_kind::QUESTION_MARK as u32;
 pub fn is_trivia(kind: u32) -> bool
     ensures { result ≡ is_trivia kind }
 {
-    let blank = kind == WHITESPACE;
-    if blank {
-        true
-    } else {
-        let line = kind == LINE_COMMENT;
-        if line { true } else { kind == BLOCK_COMMENT }
-    }
+    matches!(kind, WHITESPACE | LINE_COMMENT | BLOCK_COMMENT)
 }

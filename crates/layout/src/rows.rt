@@ -18,6 +18,7 @@ pub fn rows_fit<const N: usize>(len: usize, rows: u32) -> bool
 }
 
 // A row from an index on, in numbers. Nothing is written where it does not fit.
+#[tactic(auto, using(crate::proofs::Room::room), unfolding(crate::specs::Rows::put_row))]
 pub fn put_row<const N: usize>(buffer: &mut [u32], index: usize, row: [u32; N])
     ensures { buffer.new ≡ put_row N index row.entry buffer.old }
 {
@@ -27,6 +28,7 @@ pub fn put_row<const N: usize>(buffer: &mut [u32], index: usize, row: [u32; N])
 }
 
 // A number of a row; 0 past the last row.
+#[tactic(auto, using(crate::proofs::Room::room), unfolding(crate::specs::Rows::field))]
 pub fn field<const N: usize>(buffer: &[u32], row: usize, column: usize) -> u32
     requires { column < N }
     ensures { result ≡ field N buffer.now row column }
@@ -39,6 +41,7 @@ pub fn field<const N: usize>(buffer: &[u32], row: usize, column: usize) -> u32
 }
 
 // A row, if there are so many.
+#[tactic(auto, using(crate::proofs::Room::chunk_row))]
 pub fn row_at<const N: usize>(buffer: &[u32], row: usize) -> Option<&[u32; N]>
     requires { 0 < N }
     ensures { MatchOption result (length buffer.now / N ≤ row) (λ r. IsRow N buffer.now row r.now) }

@@ -23,13 +23,12 @@ pub fn low32(x: usize) -> u32
 pub fn add(a: u32, b: u32) -> u32
     ensures { result ≡ low (a + b) }
 {
-    std::num::wrapping_add_u32(a, b)
+    a.wrapping_add(b)
 }
 
 // The difference, or 0.
 pub fn minus(a: u32, b: u32) -> u32
     ensures { result ≡ a - b }
 {
-    let within = b <= a;
-    if within { a - b } else { 0 }
+    a.saturating_sub(b)
 }

@@ -2,13 +2,14 @@
 ghost use Rattle.std.specs.Prelude.{◌≡◌, ◌≤◌, count_ones};
 ghost use Rattle.basics.specs.WordSet.{WORD_BITS, in_word, put_in_word};
 
+#[tactic(auto, unfolding(basics::specs::WordSet::in_word))]
 pub fn contains(set: u64, n: u8) -> bool
     ensures { result ≡ in_word n set }
 {
-    let digit = (set >> (n % 64)) % 2;
-    digit == 1
+    (set >> (n % 64)) % 2 == 1
 }
 
+#[tactic(auto, unfolding(basics::specs::WordSet::put_in_word))]
 pub fn with(set: u64, n: u8) -> u64
     ensures { result ≡ put_in_word n set }
 {
@@ -20,5 +21,5 @@ pub fn count(set: u64) -> usize
     ensures value { result ≡ count_ones set }
     ensures upper_bound { result ≤ WORD_BITS }
 {
-    u64::count_ones(set) as usize
+    set.count_ones() as usize
 }

@@ -7,6 +7,5 @@ pub fn fits(len: usize, count: usize, n: usize) -> bool
     ensures value { result ≡ fits_numbers len count n }
     ensures n_bound { result ≡ true → count + n ≤ len }
 {
-    let within = count <= len;
-    if within { n <= len - count } else { false }
+    count <= len && n <= len - count
 }

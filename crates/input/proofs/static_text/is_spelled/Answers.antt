@@ -1,30 +1,9 @@
--- `is_spelled`: the table's rule at one kind.
-use Rattle.basics.proofs.Flags.{flags}
-use Rattle.input.proofs.Texts.{rule, above, spelled_free, spelled_same}
-use native.Mathlib.Omega.{arith}
-use mathlib.Core.Path.{sym}
+use Rattle.std.proofs.Common.{arith, rules, sym}
+use Rattle.input.proofs.Texts.{by_spelling, above}
 use Rattle.input.proofs.static_text.is_spelled.Goals as goal
 
-pub bounds-starts-k : goal.bounds-starts-k
-bounds-starts-k c = omega flags
+pub returns-in_default : goal.returns-in_default
+returns-in_default c = sym (above c.args.kind c.args.text.now (omega (arith, c.in_default.ensures)))
 
-pub bounds-starts-k-then-known : goal.bounds-starts-k-then-known
-bounds-starts-k-then-known c = omega flags
-
-pub slice_bounds-same-start : goal.slice_bounds-same-start
-slice_bounds-same-start c = omega (arith, (rule c.args.kind (omega flags)).ordered, c.text_index-start.ensures, c.text_index-end.ensures)
-
-pub slice_bounds-same-end : goal.slice_bounds-same-end
-slice_bounds-same-end c = omega (arith, (rule c.args.kind (omega flags)).inside, c.text_index-start.ensures, c.text_index-end.ensures)
-
-pub returns-then-free : goal.returns-then-free
-returns-then-free c = spelled_free _ _ _ _ (omega flags) c.text_index-start.ensures c.text_index-end.ensures c.if-free.true-raw
-
-pub returns-else-free : goal.returns-else-free
-returns-else-free c = spelled_same _ _ _ _ _ (omega flags) c.text_index-start.ensures c.text_index-end.ensures c.if-free.false-raw c.same.ensures
-
-pub returns-else-known : goal.returns-else-known
-returns-else-known c = sym (above _ _ (omega flags))
-
-pub slice_bounds-same-count : goal.slice_bounds-same-count
-slice_bounds-same-count c = omega (arith, (rule c.args.kind (omega flags)).ordered, c.text_index-start.ensures, c.text_index-end.ensures)
+pub returns : goal.returns
+returns c = by_spelling c.args.kind c.args.text.now c.static_text.result c.is_none_or.result (rw c.in-Ok.ensures.1 at c.static_text.ensures) (search rules)

@@ -1,17 +1,6 @@
--- `is_next_at`: the row after the one at hand.
-use Rattle.basics.proofs.Flags.{flags}
-use Rattle.token_rows.proofs.Seen.{is_next_rows, is_next_past}
+use Rattle.std.proofs.Common.{[], ◌∷◌, ◌∙◌}
+use Rattle.token_rows.proofs.Seen.{none_next}
 use Rattle.token_rows.proofs.token.is_next_at.Goals as goal
 
-pub returns-then-exists : goal.returns-then-exists
-returns-then-exists c =
-    let args = c.args in
-    let tokens = args.tokens.now in
-    let is_at = c.is_at in
-    is_next_rows tokens args.at args.kind _ (omega flags) is_at.ensures.value
-
-pub returns-else-exists : goal.returns-else-exists
-returns-else-exists c =
-    let args = c.args in
-    let tokens = args.tokens.now in
-    is_next_past tokens args.at args.kind (omega flags)
+pub returns-else-is_some : goal.returns-else-is_some
+returns-else-is_some c = c.if-is_some.false ∙ none_next (c.args.kind ∷ []) c.token_at.result _ _ c.token_at.ensures.value c.if-is_some.ensures

@@ -1,4 +1,3 @@
--- `skip_trivia`: what is skipped from here is what is skipped from the start.
 use Prim.Native.Nat.{◌-◌, ◌/◌, ◌≤◌}
 use mathlib.Core.Path.{◌≡◌}
 use lib.ListN.{length, drop}
@@ -7,10 +6,11 @@ use Rattle.definitions.specs.Token.{tokens_of}
 use Rattle.machine.specs.Machine.{Machine, with_cursor, skip}
 use Rattle.token_rows.proofs.token.skip_trivia.Given as goal
 
-abbrev pub invariant-loop-byte : goal.invariant-loop-byte
-invariant-loop-byte l =
-    ((m : Machine) → skip (drop l.at (tokens_of l.tokens)) (with_cursor l.at l.byte m) ≡ skip (drop l.from (tokens_of l.tokens)) (with_cursor l.from l.start m))
-    × (l.from ≤ l.at)
+abbrev pub invariant-loop-t : goal.invariant-loop-t
+invariant-loop-t l = record {
+  skipped : (m : Machine) → skip (drop l.seat.at (tokens_of l.tokens)) (with_cursor l.seat.at l.seat.byte m) ≡ skip (drop l.from (tokens_of l.tokens)) (with_cursor l.from l.start m);
+  onward : l.from ≤ l.seat.at;
+}
 
-abbrev pub decreases-loop-byte : goal.decreases-loop-byte
-decreases-loop-byte l = length l.tokens / TOKEN_ROW - l.at
+abbrev pub decreases-loop-t : goal.decreases-loop-t
+decreases-loop-t l = length l.tokens / TOKEN_ROW - l.seat.at
