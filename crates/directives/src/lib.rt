@@ -13,14 +13,13 @@ use layout::message::Message;
 use layout::node_kind::NodeKind;
 use layout::set::ITEM_RECOVERY_SET;
 use layout::token_kind::TokenKind;
-use names::TokenMatcher;
 use names::macro_substitutable_name::MacroSubstitutableName;
 use names::reference::Reference;
 use names::unit_address::UnitAddress;
 use parser::Parser;
 use parser::errors::Bump;
 use parser::marker::Marker;
-use parser::matcher::Matcher;
+use parser::matcher::{Matcher, TokenMatcher};
 
 const INCLUDE: Matcher = Matcher::Kind(TokenKind::DtIncludeDirective);
 
@@ -68,11 +67,11 @@ fn memreserve_arguments(p: &mut Parser)
 fn eat_deleted(p: &mut Parser) -> bool
     ensures { Walks deleted p.old (truth result) p.new }
 {
-    if Reference.eat(p) {
+    if p.eat(Reference) {
         return true;
     }
-    if MacroSubstitutableName.eat(p) {
-        return UnitAddress.eat(p);
+    if p.eat(MacroSubstitutableName) {
+        return p.eat(UnitAddress);
     }
     p.error(Message::Expected, None, Bump::No);
     true

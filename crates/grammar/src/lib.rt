@@ -31,7 +31,6 @@ use layout::set::{
 };
 use layout::token_kind::TokenKind;
 use macros::macro_invocation;
-use names::TokenMatcher;
 use names::reference::Reference;
 use parser::errors::Bump;
 use parser::marker::Marker;
@@ -190,7 +189,7 @@ fn value_rest(p: &mut Parser, allowed: usize, semicolon: bool) -> Ans
     ensures walks { WalksWithin allowed (value_rest semicolon) p.old (ans_of result) p.new }
     ensures taken { TakesOne p.old p.new }
 {
-    if Reference.silent_eat(p) {
+    if p.silent_eat(Reference) {
         return Ans::Yes;
     }
     if p.silent_at(TokenKind::Ident) {

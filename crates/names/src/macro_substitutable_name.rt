@@ -1,17 +1,16 @@
 // The matcher MacroSubstitutableName: a macro invocation with arguments, or a plain name.
 ghost use Rattle.definitions.specs.Grammar.{MacroSubstitutableName as matcher_of_names};
 
-use crate::TokenMatcher;
 use macros::macro_invocation;
 use parser::Parser;
-use parser::matcher::Matcher;
+use parser::matcher::{Matcher, TokenMatcher};
 
 #[derive(Clone, Copy)]
 pub struct MacroSubstitutableName;
 
 #[tactic(auto, unfolding(definitions::specs::Grammar::MacroSubstitutableName))]
 impl TokenMatcher for MacroSubstitutableName {
-    ghost matcher = { matcher_of_names };
+    ghost matcher = { λ m. matcher_of_names };
 
     // A name matches both cases.
     fn matches(self, p: &mut Parser) -> bool {

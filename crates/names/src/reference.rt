@@ -7,7 +7,6 @@ ghost use Rattle.definitions.specs.Grammar.{path_segment, path_turn, path_rest, 
 ghost use Rattle.parser.specs.View.{tokens_left, Walks, WalksOn, TakesOne};
 ghost use Rattle.names.specs.Subprograms.{at_segment, path};
 
-use crate::TokenMatcher;
 use crate::unit_address::UnitAddress;
 use layout::message::Message;
 use layout::node_kind::NodeKind;
@@ -16,7 +15,7 @@ use layout::token_kind::TokenKind;
 use macros::macro_invocation;
 use parser::Parser;
 use parser::errors::Bump;
-use parser::matcher::Matcher;
+use parser::matcher::{Matcher, TokenMatcher};
 
 // A node's name and its unit address, if it has one.
 fn path_segment(p: &mut Parser)
@@ -24,7 +23,7 @@ fn path_segment(p: &mut Parser)
     ensures taken { TakesOne p.old p.new }
 {
     if p.eat(Matcher::Name) {
-        UnitAddress.eat(p);
+        p.eat(UnitAddress);
     } else {
         p.error(Message::Expected, None, Bump::YesWrapErr);
     }
@@ -90,7 +89,7 @@ pub struct Reference;
 
 #[tactic(auto, unfolding(definitions::specs::Grammar::Reference))]
 impl TokenMatcher for Reference {
-    ghost matcher = { matcher_of_references };
+    ghost matcher = { λ m. matcher_of_references };
 
     fn matches(self, p: &mut Parser) -> bool {
         p.silent(Matcher::Kind(TokenKind::Ampersand))

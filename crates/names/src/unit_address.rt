@@ -1,19 +1,18 @@
 // The matcher UnitAddress: an AtSign and a name.
 ghost use Rattle.definitions.specs.Grammar.{UnitAddress as matcher_of_addresses};
 
-use crate::TokenMatcher;
 use crate::macro_substitutable_name::MacroSubstitutableName;
 use layout::node_kind::NodeKind;
 use layout::token_kind::TokenKind;
 use parser::Parser;
-use parser::matcher::Matcher;
+use parser::matcher::{Matcher, TokenMatcher};
 
 #[derive(Clone, Copy)]
 pub struct UnitAddress;
 
 #[tactic(auto, unfolding(definitions::specs::Grammar::UnitAddress))]
 impl TokenMatcher for UnitAddress {
-    ghost matcher = { matcher_of_addresses };
+    ghost matcher = { λ m. matcher_of_addresses };
 
     fn matches(self, p: &mut Parser) -> bool {
         p.silent(Matcher::Kind(TokenKind::AtSign))
@@ -26,7 +25,7 @@ impl TokenMatcher for UnitAddress {
     fn consume(self, p: &mut Parser) {
         let m = p.start();
         p.bump();
-        MacroSubstitutableName.expect(p);
+        p.expect(MacroSubstitutableName);
         m.complete(p, NodeKind::UnitAddress);
     }
 }

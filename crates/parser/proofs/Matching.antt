@@ -1,7 +1,7 @@
 -- What the matchers' tests and an immediate one come to.
 use mathlib.Core.Path.{◌≡◌, ap}
 use mathlib.Core.Bool.{Bool}
-use mathlib.Core.List.{List, [], ◌∷◌}
+use mathlib.Core.List.{[], ◌∷◌}
 use native.Mathlib.Nat.{le_refl}
 use Prim.Native.Nat.{ℕ}
 use Rattle.definitions.specs.Token.{first_in}

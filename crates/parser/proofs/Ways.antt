@@ -1,13 +1,13 @@
 -- A way through a program, step by step, as the code goes it: each step is a call's contract, a test's outcome or a
 -- return. What is known of the lent buffers and of the tokens left goes along, so that one expression answers the whole
 -- clause.
-use Prim.Native.Nat.{ℕ, zero, suc, ◌-◌, ◌/◌, ◌<◌, ◌≤◌}
+use Prim.Native.Nat.{ℕ, zero, suc, ◌-◌, ◌<◌, ◌≤◌}
 use mathlib.Core.Path.{◌≡◌, refl, sym, ap, ◌∙◌}
 use mathlib.Core.Bool.{Bool, true, false}
 use mathlib.Core.List.{List}
 use native.Mathlib.Omega.{arith}
 use native.Mathlib.Nat.{le_refl}
-use lib.ListN.{length, drop, length-drop}
+use lib.ListN.{length, length-drop}
 use Rattle.std.specs.Prelude.{Option, None, Some}
 use Rattle.basics.proofs.TokenRows.{tokens_length}
 use Rattle.definitions.specs.Layout.{START_NODE, PLACEHOLDER, TOO_DEEP}

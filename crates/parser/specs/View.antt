@@ -1,14 +1,12 @@
 -- The parser as the literal machine of the crate `machine` sees it, and what the contracts of the grammar's functions say
 -- of it before and after a call.
-use Rattle.std.specs.Prelude.{ℕ, ◌-◌, ◌/◌, ◌≤◌, Bool, List, [], ◌∷◌, ◌≡◌, Option, Some, None, length, drop}
+use Rattle.std.specs.Prelude.{ℕ, ◌-◌, ◌/◌, ◌≤◌, List, [], ◌∷◌, ◌≡◌, Option, Some, None, length, drop}
 use Rattle.definitions.specs.Layout.{TOKEN_ROW}
-use Rattle.definitions.specs.TokenKind as K
 use Rattle.definitions.specs.Errors as E
 use Rattle.definitions.specs.NodeKind.{NO_NODE}
 use Rattle.definitions.specs.Token.{Token, tokens_of}
 use Rattle.definitions.specs.Skeleton.{Span}
 use Rattle.definitions.specs.Prog.{Ans, no, yes, also, again, Rule, Prog}
-use Rattle.definitions.specs.Run.{truth}
 use Rattle.definitions.specs.Check.{NAME_SET, LABEL_NAME_SET}
 use Rattle.definitions.specs.Check as C
 use Rattle.machine.specs.Machine.{Pending, Machine}

@@ -5,11 +5,11 @@ ghost use Rattle.layout.specs.Numbers.{kind_number, expected_number};
 ghost use Rattle.definitions.specs.Prog.{yes, immediate, add_expected, act, ◌⨟◌};
 ghost use Rattle.definitions.specs.Run.{truth};
 ghost use Rattle.definitions.specs.Check.{expected, silent_eat as silent_eat_prog, at as at_prog, eat as eat_prog, expect as expect_prog, expect_recoverable as expect_recoverable_prog};
-ghost use Rattle.parser.specs.View.{tokens_left, matcher_of, Walks, TakesOne};
+ghost use Rattle.parser.specs.View.{tokens_left, Walks, TakesOne};
 
 use crate::Parser;
 use crate::errors::Bump;
-use crate::matcher::Matcher;
+use crate::matcher::TokenMatcher;
 use layout::expected::Expected;
 use layout::message::Message;
 use layout::token_kind::TokenKind;
@@ -23,17 +23,16 @@ impl<'a> Parser<'a> {
     }
 
     // `check(matcher).silent().at()`
-    pub fn silent(&mut self, m: Matcher) -> bool
-        ensures walks { Walks (matcher_of m).matches self.old (truth result) self.new }
+    pub fn silent<M: TokenMatcher>(&mut self, m: M) -> bool
+        ensures walks { Walks (M.matcher m).matches self.old (truth result) self.new }
         ensures some { result ≡ true → 0 < tokens_left self.new }
     {
-        self.peek();
-        self.is_matched(m)
+        m.matches(self)
     }
 
     // `check(matcher).silent().eat()`
-    pub fn silent_eat(&mut self, m: Matcher) -> bool
-        ensures walks { Walks (silent_eat_prog (matcher_of m)) self.old (truth result) self.new }
+    pub fn silent_eat<M: TokenMatcher>(&mut self, m: M) -> bool
+        ensures walks { Walks (silent_eat_prog (M.matcher m)) self.old (truth result) self.new }
         ensures taken { result ≡ true → tokens_left self.new < tokens_left self.old }
     {
         let matched = self.silent(m);
@@ -43,8 +42,8 @@ impl<'a> Parser<'a> {
         matched
     }
 
-    pub fn at(&mut self, m: Matcher) -> bool
-        ensures walks { Walks (at_prog (matcher_of m)) self.old (truth result) self.new }
+    pub fn at<M: TokenMatcher>(&mut self, m: M) -> bool
+        ensures walks { Walks (at_prog (M.matcher m)) self.old (truth result) self.new }
         ensures some { result ≡ true → 0 < tokens_left self.new }
     {
         m.push_expected(self);
@@ -60,8 +59,8 @@ impl<'a> Parser<'a> {
         is_at(self.tokens, self.cursor.0, kind.number())
     }
 
-    pub fn eat(&mut self, m: Matcher) -> bool
-        ensures walks { Walks (eat_prog (matcher_of m)) self.old (truth result) self.new }
+    pub fn eat<M: TokenMatcher>(&mut self, m: M) -> bool
+        ensures walks { Walks (eat_prog (M.matcher m)) self.old (truth result) self.new }
         ensures taken { result ≡ true → TakesOne self.old self.new }
     {
         let matched = self.silent(m);
@@ -73,8 +72,8 @@ impl<'a> Parser<'a> {
         matched
     }
 
-    pub fn expect(&mut self, m: Matcher) -> bool
-        ensures walks { Walks (expect_prog (matcher_of m)) self.old (truth result) self.new }
+    pub fn expect<M: TokenMatcher>(&mut self, m: M) -> bool
+        ensures walks { Walks (expect_prog (M.matcher m)) self.old (truth result) self.new }
         ensures taken { result ≡ true → TakesOne self.old self.new }
     {
         if self.eat(m) {
@@ -85,8 +84,8 @@ impl<'a> Parser<'a> {
     }
 
     // On a failure, a token that is not in the recovery set is taken into a ParseError.
-    pub fn expect_recoverable(&mut self, m: Matcher, recovery: &[u8]) -> bool
-        ensures { Walks (expect_recoverable_prog (matcher_of m) recovery.now) self.old (truth result) self.new }
+    pub fn expect_recoverable<M: TokenMatcher>(&mut self, m: M, recovery: &[u8]) -> bool
+        ensures { Walks (expect_recoverable_prog (M.matcher m) recovery.now) self.old (truth result) self.new }
     {
         if self.eat(m) {
             return true;

@@ -74,7 +74,7 @@ impl<'a> Parser<'a> {
         ensures value { result ≡ first_in (kinds_of m) (rest self.now) }
         ensures some { result ≡ true → 0 < tokens_left self.now }
     {
-        self.has_token() && m.matches(kind_at(self.tokens, self.cursor.0))
+        self.has_token() && m.matches_kind(kind_at(self.tokens, self.cursor.0))
     }
 
     // The range of the row at the cursor.

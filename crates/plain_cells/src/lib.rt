@@ -9,7 +9,6 @@ ghost use Rattle.plain_cells.specs.Subprograms.{plain_cell};
 use layout::expected::Expected;
 use layout::token_kind::TokenKind;
 use macros::macro_invocation;
-use names::TokenMatcher;
 use names::reference::Reference;
 use parser::Parser;
 use parser::matcher::Matcher;
@@ -26,5 +25,5 @@ pub fn eat_plain_cell(p: &mut Parser) -> bool
         macro_invocation(p);
         return true;
     }
-    Reference.silent_eat(p)
+    p.silent_eat(Reference)
 }

@@ -11,12 +11,11 @@ ghost use Rattle.prefixes.specs.Subprograms.{label_or_name, labels_and_name};
 use layout::message::Message;
 use layout::node_kind::NodeKind;
 use layout::token_kind::TokenKind;
-use names::TokenMatcher;
 use names::macro_substitutable_name::MacroSubstitutableName;
 use names::reference::Reference;
 use names::unit_address::UnitAddress;
 use parser::errors::Bump;
-use parser::matcher::Matcher;
+use parser::matcher::{Matcher, TokenMatcher};
 use parser::{Ans, Parser};
 
 // A label (Again), or the name of a node or property (`own_name`). The cursor stands at the name.
@@ -30,7 +29,7 @@ fn label_or_name(p: &mut Parser, own_name: Ans) -> Ans
         m.complete(p, NodeKind::DtLabel);
         return Ans::Again;
     }
-    if UnitAddress.eat(p) && p.silent_at(TokenKind::Colon) {
+    if p.eat(UnitAddress) && p.silent_at(TokenKind::Colon) {
         p.error(Message::AtSignInLabel, None, Bump::Yes);
         m.complete(p, NodeKind::ParseError);
         return Ans::Again;
@@ -44,10 +43,10 @@ fn turn(p: &mut Parser, own_name: Ans) -> Ans
     ensures taken_again { tokens_left p.new + took_if_again result ≤ tokens_left p.old }
     ensures taken { tokens_left p.new ≤ tokens_left p.old - took_unless_no result }
 {
-    if MacroSubstitutableName.at(p) {
+    if p.at(MacroSubstitutableName) {
         return label_or_name(p, own_name);
     }
-    if Reference.eat(p) || p.eat(Matcher::Kind(TokenKind::Slash)) {
+    if p.eat(Reference) || p.eat(Matcher::Kind(TokenKind::Slash)) {
         return Ans::Yes;
     }
     Ans::No

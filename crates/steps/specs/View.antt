@@ -1,13 +1,7 @@
 -- Answers that are more than yes and no. What the contracts of the grammar cite.
-use Rattle.std.specs.Prelude.{ℕ, Bool, true, false}
-use Rattle.definitions.specs.Prog.{Ans, yes, also}
+use Rattle.std.specs.Prelude.{ℕ}
 use Rattle.parser.specs.declared.Ans.{Ans as CodeAns}
 use Rattle.parser.specs.declared.Ans.TheVariants.{No, Yes, Also, Again}
-
--- the answer at a node's or property's own name, by `allow_prop`
-abbrev pub own_name : Bool → Ans
-own_name true = also
-own_name false = yes
 
 -- how many tokens were surely taken where a function answers so: one for `Again`
 abbrev pub took_if_again : CodeAns → ℕ

@@ -1,5 +1,5 @@
 -- `current_token_error_range`: the last byte, the byte after the last token, or the current token.
-use Rattle.std.proofs.Common.{◌≡◌, sym, ◌∙◌, ap, Bool, true, false}
+use Rattle.std.proofs.Common.{◌≡◌, ◌∙◌, true, false}
 use Rattle.basics.proofs.Flags.{flags}
 use Rattle.definitions.specs.Run.{only_separators}
 use Rattle.parser.specs.View.{view, tokens_left}

@@ -6,7 +6,7 @@ use Rattle.parser.proofs.Parser.is_matched.Goals as goal
 
 pub returns-then-has_token-clause-value : goal.returns-then-has_token-clause-value
 returns-then-has_token-clause-value c =
-    is_one_of_rows c.args.self.now.tokens.now (kinds_of c.args.m) _ _ _ (some_left _ (c.has_token.ensures.some c.if-has_token.true)) c.kind_at.ensures.value c.matches.ensures
+    is_one_of_rows c.args.self.now.tokens.now (kinds_of c.args.m) _ _ _ (some_left _ (c.has_token.ensures.some c.if-has_token.true)) c.kind_at.ensures.value c.matches_kind.ensures
 
 pub returns-else-has_token-clause-value : goal.returns-else-has_token-clause-value
 returns-else-has_token-clause-value c =

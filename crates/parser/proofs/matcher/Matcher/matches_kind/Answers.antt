@@ -2,7 +2,7 @@ use Rattle.std.proofs.Common.{sym, ◌∙◌}
 use Rattle.basics.proofs.Tests.{eqb_swap}
 use Rattle.token_rows.proofs.Seen.{one_of_one}
 use Rattle.parser.proofs.Moves.{any_one_of, first_is, second_is}
-use Rattle.parser.proofs.matcher.Matcher.matches.Goals as goal
+use Rattle.parser.proofs.matcher.Matcher.matches_kind.Goals as goal
 
 pub returns-in-Kind : goal.returns-in-Kind
 returns-in-Kind c = rw (c.in-Kind.is, c.number.ensures) (eqb_swap _ _ ∙ sym (one_of_one _ _))

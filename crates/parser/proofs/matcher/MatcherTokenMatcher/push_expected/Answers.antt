@@ -1,5 +1,5 @@
 use Rattle.parser.proofs.Ways.{walks, seq, stay}
-use Rattle.parser.proofs.matcher.Matcher.push_expected.Goals as goal
+use Rattle.parser.proofs.matcher.MatcherTokenMatcher.push_expected.Goals as goal
 
 pub returns-in-Either : goal.returns-in-Either
 returns-in-Either c =
