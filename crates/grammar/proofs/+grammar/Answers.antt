@@ -34,8 +34,8 @@ pub cells-loop-p-preserved : goal.cells-loop-p-preserved
 unfolding cells_turn silent
 cells-loop-p-preserved t c =
     turns c.loop-p.invariant (no_case (call c.args.allowed c.eat_cell.ensures.opens) c.if-eat_cell.false (no_case (c.at_cells_end.ensures.way _ _) c.if-at_cells_end.false
-    (no_case (c.at_cells_recovery.ensures.walks.way _ _) c.if-at_cells_recovery.false (seq (c.error-2.ensures.walks.way _ _) stay))))
-    (omega (flags, c.eat_cell.ensures.opens.left, c.at_cells_end.ensures.left, c.at_cells_recovery.ensures.walks.left, c.at_cells_recovery.ensures.some c.if-at_cells_recovery.false, c.error-2.ensures.taken))
+    (no_case (c.at_cells_recovery.ensures.walks.way _ _) c.if-at_cells_recovery.false (seq (c.error-in-loop-p.ensures.walks.way _ _) stay))))
+    (omega (flags, c.eat_cell.ensures.opens.left, c.at_cells_end.ensures.left, c.at_cells_recovery.ensures.walks.left, c.at_cells_recovery.ensures.some c.if-at_cells_recovery.false, c.error-in-loop-p.ensures.taken))
 
 pub eat_cell-returns-then-allowed-eq0-clause-opens : goal.eat_cell-returns-then-allowed-eq0-clause-opens
 eat_cell-returns-then-allowed-eq0-clause-opens t c =
@@ -44,18 +44,18 @@ eat_cell-returns-then-allowed-eq0-clause-opens t c =
 pub eat_cell-returns-then-eat_plain_cell-clause-opens : goal.eat_cell-returns-then-eat_plain_cell-clause-opens
 unfolding grammar
 eat_cell-returns-then-eat_plain_cell-clause-opens t c =
-    body (some_allowed c.if-allowed-eq0.false) (cell_way (yes_case (c.eat_plain_cell.ensures.walks.way _ _) c.if-eat_plain_cell.true stay))
+    body (some_allowed c.if-allowed-eq0.false) (cell_way _ (yes_case (c.eat_plain_cell.ensures.walks.way _ _) c.if-eat_plain_cell.true stay))
 
 pub eat_cell-returns-then-silent_at-clause-opens : goal.eat_cell-returns-then-silent_at-clause-opens
 unfolding grammar silent
 eat_cell-returns-then-silent_at-clause-opens t c =
-    body (some_allowed c.if-allowed-eq0.false) (cell_way (no_case (c.eat_plain_cell.ensures.walks.way _ _) c.if-eat_plain_cell.false
+    body (some_allowed c.if-allowed-eq0.false) (cell_way _ (no_case (c.eat_plain_cell.ensures.walks.way _ _) c.if-eat_plain_cell.false
     (yes_case (c.silent_at.ensures.walks.way _ _) c.if-silent_at.true (seq c.dt_expr.ensures.walks stay))))
 
 pub eat_cell-returns-clause-opens : goal.eat_cell-returns-clause-opens
 unfolding grammar silent
 eat_cell-returns-clause-opens t c =
-    body (some_allowed c.if-allowed-eq0.false) (cell_way (no_case (c.eat_plain_cell.ensures.walks.way _ _) c.if-eat_plain_cell.false
+    body (some_allowed c.if-allowed-eq0.false) (cell_way _ (no_case (c.eat_plain_cell.ensures.walks.way _ _) c.if-eat_plain_cell.false
     (no_case (c.silent_at.ensures.walks.way _ _) c.if-silent_at.false c.cell_rest.ensures.walks)))
 
 pub cell_rest-returns-then-eat_dts_include-clause-walks : goal.cell_rest-returns-then-eat_dts_include-clause-walks
@@ -124,19 +124,19 @@ pub propvalues-returns-in-Yes-after_propvalue-clause-opens : goal.propvalues-ret
 unfolding grammar propvalues_body propvalues_turn
 propvalues-returns-in-Yes-after_propvalue-clause-opens t c =
     body (some_allowed c.if-allowed-eq0.false) (stops_yes c.loop-allowed.invariant (no_case (c.at_end.ensures.walks.way _ _) c.if-at_end.false
-    (if_other c.in-Yes.is c.value.ensures.walks (answers (ap ans_of c.in-Yes-after_propvalue.is) (c.after_propvalue.ensures.walks.way _ _)))))
+    (if_other _ c.in-Yes.is c.value.ensures.walks (answers (ap ans_of c.in-Yes-after_propvalue.is) (c.after_propvalue.ensures.walks.way _ _)))))
 
 pub propvalues-returns-in-No-after_propvalue-clause-opens : goal.propvalues-returns-in-No-after_propvalue-clause-opens
 unfolding grammar propvalues_body propvalues_turn
 propvalues-returns-in-No-after_propvalue-clause-opens t c =
     body (some_allowed c.if-allowed-eq0.false) (stops_no c.loop-allowed.invariant (no_case (c.at_end.ensures.walks.way _ _) c.if-at_end.false
-    (if_other c.in-Yes.is c.value.ensures.walks (answers (never_also c.in-No-after_propvalue.is c.after_propvalue.ensures.never) (c.after_propvalue.ensures.walks.way _ _)))))
+    (if_other _ c.in-Yes.is c.value.ensures.walks (answers (never_also _ c.in-No-after_propvalue.is c.after_propvalue.ensures.never) (c.after_propvalue.ensures.walks.way _ _)))))
 
 pub propvalues-loop-allowed-preserved : goal.propvalues-loop-allowed-preserved
 unfolding propvalues_turn
 propvalues-loop-allowed-preserved t c =
     turns c.loop-allowed.invariant (no_case (c.at_end.ensures.walks.way _ _) c.if-at_end.false
-    (if_other c.in-Yes.is c.value.ensures.walks (answers (ap ans_of c.in-Again-after_propvalue.is) (c.after_propvalue.ensures.walks.way _ _))))
+    (if_other _ c.in-Yes.is c.value.ensures.walks (answers (ap ans_of c.in-Again.is) (c.after_propvalue.ensures.walks.way _ _))))
     (omega (flags, c.at_end.ensures.walks.left, c.at_end.ensures.some c.if-at_end.false, c.value.ensures.taken, c.after_propvalue.ensures.walks.left))
 
 pub value-returns-then-silent_at-clause-walks : goal.value-returns-then-silent_at-clause-walks
@@ -308,7 +308,7 @@ eat_node_or_prop-returns-else-at-clause-walks t c =
 pub eat_node_or_prop-returns-in-Yes-clause-walks : goal.eat_node_or_prop-returns-in-Yes-clause-walks
 unfolding eat_node_or_prop
 eat_node_or_prop-returns-in-Yes-clause-walks t c =
-    marker c.start-m.ensures.marker c.start-m.ensures.becomes (if_other c.in-Yes.is (c.eat_node_or_prop_prefix.ensures.walks.way _ _) c.node-in-Yes.ensures)
+    marker c.start-m.ensures.marker c.start-m.ensures.becomes (if_other _ c.in-Yes.is (c.eat_node_or_prop_prefix.ensures.walks.way _ _) c.node-in-Yes.ensures)
 
 pub node-returns-then-at : goal.node-returns-then-at
 node-returns-then-at t c =
@@ -377,13 +377,13 @@ branch-loop-inside-preserved t c =
 pub cond_branches_and_end-loop-inside-preserved : goal.cond_branches_and_end-loop-inside-preserved
 unfolding cond_branches_turn
 cond_branches_and_end-loop-inside-preserved t c =
-    turns c.loop-inside.invariant (yes_case c.branch.ensures.walks c.loop-inside-test.true (seq (c.bump.ensures.walks.way _ _) stay))
-    (omega (flags, c.branch.ensures.walks.left, c.branch.ensures.some c.loop-inside-test.true, c.bump.ensures.taken))
+    turns c.loop-inside.invariant (yes_case c.branch-p.ensures.walks c.loop-inside-test.true (seq (c.bump.ensures.walks.way _ _) stay))
+    (omega (flags, c.branch-p.ensures.walks.left, c.branch-p.ensures.some c.loop-inside-test.true, c.bump.ensures.taken))
 
 pub cond_branches_and_end-returns : goal.cond_branches_and_end-returns
 unfolding cond_branches_and_end cond_branches_turn
 cond_branches_and_end-returns t c =
-    ends (seq (stops_yes c.loop-inside.invariant (no_case c.branch.ensures.walks c.loop-inside-test.false stay)) (c.expect.ensures.walks.way _ _))
+    ends (seq (stops_yes c.loop-inside.invariant (no_case c.branch-p.ensures.walks c.loop-inside-test.false stay)) (c.expect.ensures.walks.way _ _))
 
 pub eat_pp_directive-returns-then-not-silent_at_set-clause-walks : goal.eat_pp_directive-returns-then-not-silent_at_set-clause-walks
 unfolding eat_preprocessor_directive silent
