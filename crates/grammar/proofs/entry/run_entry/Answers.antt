@@ -1,8 +1,13 @@
 -- `run_entry`: the entry and what it leaves over, from a fresh parser.
-use mathlib.Core.Path.{◌≡◌, ap, ◌∙◌}
+use Rattle.std.proofs.Common.{rules}
+use mathlib.Core.Path.{◌≡◌, sym, ap, ◌∙◌}
 use Rattle.definitions.specs.Grammar.{whole}
-use Rattle.machine.specs.Machine.{Machine, Pending}
-use Rattle.machine.specs.Walk.{walk_prog}
+use Rattle.machine.specs.Machine.{Machine, Pending, with_pending}
+use Rattle.machine.specs.Walk.{walk_prog, walk, walk_rule, unlabelled}
+use Rattle.machine.specs.Outcome.{fresh}
+use Rattle.definitions.specs.Layout.{MOST_OPEN_CALLS}
+use Rattle.definitions.specs.Token.{tokens_of}
+use Rattle.grammar.specs.Subprograms.{entry_for}
 use Rattle.parser.proofs.Ways.{seq, ends, lands}
 use Rattle.grammar.proofs.entry.run_entry.Goals as goal
 
@@ -10,4 +15,13 @@ pub returns : goal.returns
 unfolding whole walk_prog
 returns c =
     let w = ends (seq (lands c.enter.ensures) (c.left_over.ensures.way _ _)) in
-    ?
+    let ts = tokens_of c.args.tokens.now in
+    let f = fresh c.args.events.now c.args.reports.now c.args.pool.now in
+    let e = w.is ∙ ap (λ (x : Pending). (walk (walk_rule MOST_OPEN_CALLS ts) ts unlabelled (whole (entry_for c.args.entrypoint)) (with_pending x f)).on) c.none.ensures in
+    record {
+      events = search (rules, ap (λ (m : Machine). m.events) e);
+      reports = search (rules, ap (λ (m : Machine). m.reports) e);
+      pool = search (rules, ap (λ (m : Machine). m.pool) e);
+      refusal = ap (λ (m : Machine). m.refusal) e;
+      place = ap (λ (m : Machine). m.place) e;
+    }
