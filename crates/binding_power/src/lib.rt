@@ -2,15 +2,16 @@
 // a level.
 #![tactic(auto)]
 
-ghost use Rattle.std.specs.Prelude.{◌≡◌, ◌≤◌};
+ghost use Rattle.std.specs.Prelude.{◌≡◌, ◌≤◌, ◌<◌, IsSome};
 ghost use Rattle.definitions.specs.BindingPower.{binary_levels};
 ghost use Rattle.binding_power.specs.Power.{level_in, left_of, right_of, is_binary};
+ghost use Rattle.binding_power.specs.Answer.{left_in, right_in, binary_in};
 
-use layout::token_kind;
+use layout::token_kind::TokenKind;
 
-pub const FIRST_OPERATOR: u8 = token_kind::AMPERSAND;
+pub const FIRST_OPERATOR: u8 = TokenKind::Ampersand as u8;
 
-pub const LAST_OPERATOR: u8 = token_kind::RELATIONAL_NEQ;
+pub const LAST_OPERATOR: u8 = TokenKind::RelationalNeq as u8;
 
 // By the operator's kind, from FIRST_OPERATOR to LAST_OPERATOR: 1 to 10 from || to multiplication, 0 where the kind is
 // not a binary operator.
@@ -55,9 +56,8 @@ pub const TERNARY_RIGHT: u8 = 1;
 // `PrefixOp::binding_power`.
 pub const PREFIX_POWER: u8 = 23;
 
-// `InfixOp::binding_power`: left and right, 0 and 0 where the kind is not an infix operator; and whether it is one
-// other than the ternary.
-#[derive(Clone, Copy, Default)]
+// `InfixOp::binding_power`: left and right; and whether the operator is one other than the ternary.
+#[derive(Clone, Copy)]
 pub struct BindingPower {
     pub left: u8,
     pub right: u8,
@@ -76,24 +76,26 @@ fn level(k: u8) -> u8
     }
 }
 
-pub fn binding_power(k: u8) -> BindingPower
-    ensures left_value { result.left ≡ left_of k }
-    ensures right_value { result.right ≡ right_of k }
-    ensures binary_value { result.binary ≡ is_binary k }
+// None where the kind is not an infix operator.
+pub fn binding_power(k: u8) -> Option<BindingPower>
+    ensures left { left_in result ≡ left_of k }
+    ensures right { right_in result ≡ right_of k }
+    ensures binary { binary_in result ≡ is_binary k }
+    ensures some { IsSome result → 0 < left_in result }
 {
-    if k == token_kind::QUESTION_MARK {
-        return BindingPower {
+    if k == TokenKind::QuestionMark as u8 {
+        return Some(BindingPower {
             left: TERNARY_LEFT,
             right: TERNARY_RIGHT,
             binary: false,
-        };
+        });
     }
     match level(k) {
-        0 => BindingPower::default(),
-        n => BindingPower {
+        0 => None,
+        n => Some(BindingPower {
             left: 2 * n + 1,
             right: 2 * n + 2,
             binary: true,
-        },
+        }),
     }
 }

@@ -1,172 +1,91 @@
 // Where items, values and cells end: the conditions of grammar.rs's loops.
-ghost use Rattle.std.specs.Prelude.{◌≡◌, true, false, ◌≤◌, ◌<◌};
+ghost use Rattle.std.specs.Prelude.{◌≡◌, true, false, ◌<◌};
 ghost use Rattle.definitions.specs.Prog.{yes, also};
 ghost use Rattle.definitions.specs.Grammar.{cells_end, after_propvalue};
-ghost use Rattle.parser.specs.View.{tokens_left, state_tested, ans_of, Looks, Walks, ClosesKept, Sees, says};
-ghost use Rattle.steps.specs.View.{state_answered};
+ghost use Rattle.definitions.specs.Run.{truth};
+ghost use Rattle.parser.specs.View.{tokens_left, ans_of, Walks, Closes};
 ghost use Rattle.ends.specs.Subprograms.{at_item, at_cells_recovery, at_values_end, unfinished};
 
-use layout::hint::NO_HINT;
-use layout::limit::Codes;
-use layout::message::EXPECTED;
+use layout::expected::Expected;
+use layout::message::Message;
+use layout::node_kind::NodeKind;
 use layout::set::{
     CELLS_RECOVERY_SET, CONTINUE_COND_SET, ITEM_RECOVERY_SET, PROPERTY_VALUE_RECOVERY_SET,
 };
-use layout::{expected, node_kind, token_kind};
+use layout::token_kind::TokenKind;
 use parser::errors::Bump;
 use parser::marker::Marker;
 use parser::matcher::Matcher;
-use parser::{Ans, State, StateAnswered, StateTested};
+use parser::{Ans, Parser};
 
 // Whether a node's body goes on here.
-pub fn at_item(s: State, codes: &mut Codes, tokens: &[u32]) -> StateTested
-    ensures looks { Looks at_item s (state_tested result) codes tokens }
-    ensures s_bound { tokens_left tokens.now result.s ≤ tokens_left tokens.now s }
-    ensures s_nonzero { result.yes ≡ true → 0 < tokens_left tokens.now result.s }
+pub fn at_item(p: &mut Parser) -> bool
+    ensures walks { Walks at_item p.old (truth result) p.new }
+    ensures some { result ≡ true → 0 < tokens_left p.new }
 {
-    let rcurly = s.at(codes, tokens, Matcher::Kind(token_kind::RCURLY));
-    if rcurly.yes {
-        let q = rcurly.s;
-        return StateTested { s: q, yes: false };
-    }
-    let end = rcurly.s.at_end(tokens);
-    let q = end.s;
-    if end.yes {
-        StateTested { s: q, yes: false }
-    } else {
-        StateTested { s: q, yes: true }
-    }
+    !p.at(Matcher::Kind(TokenKind::RCurly)) && !p.at_end()
 }
 
 // Whether cells end here.
-pub fn at_cells_end(s: State, codes: &mut Codes, tokens: &[u32], until_end: bool) -> StateTested
-    ensures looks { Looks (cells_end until_end) s (state_tested result) codes tokens }
-    ensures s_bound { tokens_left tokens.now result.s ≤ tokens_left tokens.now s }
+pub fn at_cells_end(p: &mut Parser, until_end: bool) -> bool
+    ensures { Walks (cells_end until_end) p.old (truth result) p.new }
 {
     if until_end {
-        let q = s.add_expected(codes, expected::END);
-        q.at_end(tokens)
+        p.add_expected(Expected::End);
+        p.at_end()
     } else {
-        s.at(codes, tokens, Matcher::Kind(token_kind::RANGLE))
+        p.at(Matcher::Kind(TokenKind::RAngle))
     }
 }
 
 // Whether cells are cut off here.
-pub fn at_cells_recovery(s: State, tokens: &[u32]) -> StateTested
-    ensures sees { Sees at_cells_recovery s (state_tested result) tokens }
-    ensures s_bound { tokens_left tokens.now result.s ≤ tokens_left tokens.now s }
-    ensures s_nonzero { result.yes ≡ false → 0 < tokens_left tokens.now s }
+pub fn at_cells_recovery(p: &mut Parser) -> bool
+    ensures walks { Walks at_cells_recovery p.old (truth result) p.new }
+    ensures some { result ≡ false → 0 < tokens_left p.old }
 {
-    let cut = s.silent_at_set(tokens, &CELLS_RECOVERY_SET);
-    if cut.yes {
-        return cut;
-    }
-    let end = cut.s.at_end(tokens);
-    if end.yes {
-        return end;
-    }
-    let branch = end.s.silent_at_set(tokens, &CONTINUE_COND_SET);
-    if branch.yes {
-        return branch;
-    }
-    branch.s.silent_at(tokens, token_kind::ENDIF_DIRECTIVE)
+    p.silent_at_set(&CELLS_RECOVERY_SET)
+        || p.at_end()
+        || p.silent_at_set(&CONTINUE_COND_SET)
+        || p.silent_at(TokenKind::EndifDirective)
 }
 
 // `at(ending_kinds)`
-fn at_values_end(s: State, codes: &mut Codes, tokens: &[u32], semicolon: bool) -> StateTested
-    ensures looks { Looks (at_values_end semicolon) s (state_tested result) codes tokens }
-    ensures s_bound { tokens_left tokens.now result.s ≤ tokens_left tokens.now s }
+fn at_values_end(p: &mut Parser, semicolon: bool) -> bool
+    ensures { Walks (at_values_end semicolon) p.old (truth result) p.new }
 {
     if semicolon {
-        s.at(codes, tokens, Matcher::Kind(token_kind::SEMICOLON))
+        p.at(Matcher::Kind(TokenKind::Semicolon))
     } else {
-        s.silent_at_set(tokens, &[])
+        p.silent_at_set(&[])
     }
 }
 
 // After a value. Again: one more; Yes: the values end here; No: they are cut off.
-pub fn after_propvalue(
-    s: State,
-    codes: &mut Codes,
-    tokens: &[u32],
-    events: &mut [u32],
-    reports: &mut [u32],
-    pool: &mut [u32],
-    semicolon: bool,
-) -> StateAnswered
-    ensures walks { Walks (after_propvalue semicolon) s (state_answered result) codes tokens events reports pool }
-    ensures s_bound { tokens_left tokens.now result.s ≤ tokens_left tokens.now s }
-    ensures fact { ans_of result.ans ≡ also → ⊥ }
+pub fn after_propvalue(p: &mut Parser, semicolon: bool) -> Ans
+    ensures walks { Walks (after_propvalue semicolon) p.old (ans_of result) p.new }
+    ensures never { ans_of result ≡ also → ⊥ }
 {
-    let comma = s.eat(codes, tokens, events, Matcher::Kind(token_kind::COMMA));
-    if comma.yes {
-        let q = comma.s;
-        return StateAnswered {
-            s: q,
-            ans: Ans::Again,
-        };
+    if p.eat(Matcher::Kind(TokenKind::Comma)) {
+        return Ans::Again;
     }
-    let end = at_values_end(comma.s, codes, tokens, semicolon);
-    if end.yes {
-        let q = end.s;
-        return StateAnswered {
-            s: q,
-            ans: Ans::Yes,
-        };
+    if at_values_end(p, semicolon) {
+        return Ans::Yes;
     }
-    let next = end.s.silent_at_set(tokens, &PROPERTY_VALUE_RECOVERY_SET);
-    if next.yes {
-        let q = next.s.error(
-            codes,
-            tokens,
-            events,
-            reports,
-            pool,
-            EXPECTED,
-            NO_HINT,
-            Bump::No,
-        );
-        return StateAnswered {
-            s: q,
-            ans: Ans::Again,
-        };
+    if p.silent_at_set(&PROPERTY_VALUE_RECOVERY_SET) {
+        p.error(Message::Expected, None, Bump::No);
+        return Ans::Again;
     }
-    let q = next.s;
-    StateAnswered { s: q, ans: Ans::No }
+    Ans::No
 }
 
 // After a prefix that neither a node nor a property follows: a token that no item starts with is taken. Completes m,
 // which the caller made.
-pub fn unfinished(
-    s: State,
-    codes: &Codes,
-    tokens: &[u32],
-    events: &mut [u32],
-    reports: &mut [u32],
-    pool: &mut [u32],
-    m: Marker,
-) -> State
-    ensures closes { ClosesKept m unfinished s (says yes result) codes tokens events reports pool }
-    ensures result_bound { tokens_left tokens.now result ≤ tokens_left tokens.now s }
+pub fn unfinished(p: &mut Parser, m: Marker)
+    ensures { Closes m unfinished p.old yes p.new }
 {
-    let reported = s.error(
-        codes,
-        tokens,
-        events,
-        reports,
-        pool,
-        EXPECTED,
-        NO_HINT,
-        Bump::No,
-    );
-    let recovery = reported.silent_at_set(tokens, &ITEM_RECOVERY_SET);
-    if recovery.yes {
-        return recovery.s.complete(events, m, node_kind::PARSE_ERROR);
+    p.error(Message::Expected, None, Bump::No);
+    if !p.silent_at_set(&ITEM_RECOVERY_SET) && !p.at_end() {
+        p.bump();
     }
-    let end = recovery.s.at_end(tokens);
-    if end.yes {
-        return end.s.complete(events, m, node_kind::PARSE_ERROR);
-    }
-    let q = end.s.bump(tokens, events);
-    q.complete(events, m, node_kind::PARSE_ERROR)
+    m.complete(p, NodeKind::ParseError);
 }

@@ -1,3 +1,4 @@
--- Laws that the proofs of the code cite.
-pub mod Chain
+-- What the proofs of the functions share.
 pub mod Levels
+pub mod Chain
+pub mod Turns

@@ -1,3 +1,3 @@
--- What the proofs of this crate share.
+-- What the proofs of the functions share.
 pub mod Laws
 pub mod Ways

@@ -1,23 +1,22 @@
 // The entries of grammar.rs, and `Entrypoint::parse` of parser/mod.rs up to the sink.
-ghost use Rattle.std.specs.Prelude.{◌≡◌, ◌-◌, ◌≤◌};
 ghost use Rattle.definitions.specs.Layout.{MOST_OPEN_CALLS};
-ghost use Rattle.definitions.specs.Token.{tokens_of};
 ghost use Rattle.definitions.specs.Prog.{yes};
-ghost use Rattle.definitions.specs.Grammar.{sourcefile_part, entry_sourcefile, entry, whole};
-ghost use Rattle.machine.specs.Walk.{walk_prog, unlabelled};
-ghost use Rattle.machine.specs.Outcome.{fresh};
-ghost use Rattle.parser.specs.View.{parser_view, tokens_left, WalksWithin, WalksWithinOn, parser_says, leaving, entering};
+ghost use Rattle.definitions.specs.Grammar.{sourcefile_part, entry_sourcefile, entry};
+ghost use Rattle.parser.specs.View.{TakesOne, WalksWithin, WalksWithinOn};
 ghost use Rattle.grammar.specs.Subprograms.{entry_for};
+ghost use Rattle.grammar.specs.Runs.{Ran};
 
 use crate::preprocessor_directive::{Inside, catch_unmatched_pp_directive};
 use crate::{cells, item, propvalues};
 use ends::nodes::{left_over, unmatched_rcurly};
 use layout::limit::MOST_OPEN_CALLS;
-use layout::token_kind;
-use names::reference_noamp;
-use parser::Parser;
+use layout::token_kind::TokenKind;
+use layout::{ByteOffset, TokenIndex};
+use names::reference::reference_noamp;
+use parser::pending::Pending;
+use parser::{Parser, Refused};
 
-#[derive(Clone, Copy)]
+#[derive(Clone, Copy, PartialEq, Eq)]
 pub enum Entrypoint {
     SourceFile,
     ReferenceNoamp,
@@ -25,77 +24,49 @@ pub enum Entrypoint {
     Cells,
 }
 
+// What a run leaves: how many numbers of each buffer are written, and why it stopped, if it did.
+#[derive(Clone, Copy)]
+pub struct Run {
+    pub events_written: usize,
+    pub reports_written: usize,
+    pub pool_written: usize,
+    pub refused: Option<Refused>,
+}
+
 // One turn of `entry_sourcefile`.
-fn sourcefile_part(
-    p: Parser,
-    tokens: &[u32],
-    events: &mut [u32],
-    reports: &mut [u32],
-    pool: &mut [u32],
-) -> Parser
-    ensures walks_within_on { WalksWithinOn MOST_OPEN_CALLS sourcefile_part p result tokens events reports pool }
-    ensures s_bound { tokens_left tokens.now result.s ≤ tokens_left tokens.now p.s - 1 }
+fn sourcefile_part(p: &mut Parser)
+    ensures walks { WalksWithinOn MOST_OPEN_CALLS sourcefile_part p.old p.new }
+    ensures taken { TakesOne p.old p.new }
 {
-    let rcurly = p.silent_at(tokens, token_kind::RCURLY);
-    if rcurly.yes {
-        return unmatched_rcurly(rcurly.p, tokens, events, reports, pool);
+    if p.silent_at(TokenKind::RCurly) {
+        unmatched_rcurly(p);
+        return;
     }
-    let caught = catch_unmatched_pp_directive(
-        rcurly.p,
-        tokens,
-        events,
-        reports,
-        pool,
-        MOST_OPEN_CALLS,
-        Inside::Item,
-    );
-    if caught.yes {
-        return caught.p;
+    if catch_unmatched_pp_directive(p, MOST_OPEN_CALLS, Inside::Item) {
+        return;
     }
-    item(caught.p, tokens, events, reports, pool, MOST_OPEN_CALLS)
+    item(p, MOST_OPEN_CALLS);
 }
 
-fn entry_sourcefile(
-    p: Parser,
-    tokens: &[u32],
-    events: &mut [u32],
-    reports: &mut [u32],
-    pool: &mut [u32],
-) -> Parser
-    ensures walks_within { WalksWithin MOST_OPEN_CALLS entry_sourcefile p (parser_says yes result) tokens events reports pool }
-    ensures s_bound { tokens_left tokens.now result.s ≤ tokens_left tokens.now p.s }
+fn entry_sourcefile(p: &mut Parser)
+    ensures { WalksWithin MOST_OPEN_CALLS entry_sourcefile p.old yes p.new }
 {
-    let mut q = p;
-    loop {
-        let end = q.at_end(tokens);
-        if end.yes {
-            return end.p;
-        }
-        q = sourcefile_part(end.p, tokens, events, reports, pool);
+    while !p.at_end() {
+        sourcefile_part(p);
     }
 }
 
-fn enter(
-    p: Parser,
-    tokens: &[u32],
-    events: &mut [u32],
-    reports: &mut [u32],
-    pool: &mut [u32],
-    entrypoint: Entrypoint,
-) -> Parser
-    ensures walks_within_on { WalksWithinOn MOST_OPEN_CALLS (entry (entry_for entrypoint)) p result tokens events reports pool }
-    ensures s_bound { tokens_left tokens.now result.s ≤ tokens_left tokens.now p.s }
+fn enter(p: &mut Parser, entrypoint: Entrypoint)
+    ensures { WalksWithinOn MOST_OPEN_CALLS (entry (entry_for entrypoint)) p.old p.new }
 {
     match entrypoint {
-        Entrypoint::SourceFile => entry_sourcefile(p, tokens, events, reports, pool),
-        Entrypoint::ReferenceNoamp => reference_noamp(p, tokens, events, reports, pool),
+        Entrypoint::SourceFile => entry_sourcefile(p),
+        Entrypoint::ReferenceNoamp => reference_noamp(p),
         Entrypoint::PropValues => {
-            let values = propvalues(p, tokens, events, reports, pool, MOST_OPEN_CALLS, false);
-            values.p
+            propvalues(p, MOST_OPEN_CALLS, false);
         }
         Entrypoint::Cells => {
-            let inner = cells(p, tokens, events, reports, pool, MOST_OPEN_CALLS, true);
-            inner.p
+            cells(p, MOST_OPEN_CALLS, true);
         }
     }
 }
@@ -107,12 +78,30 @@ pub fn run_entry(
     reports: &mut [u32],
     pool: &mut [u32],
     entrypoint: Entrypoint,
-) -> Parser
-    ensures { leaving (parser_view result) events reports pool
-        ≡ (walk_prog MOST_OPEN_CALLS (tokens_of tokens.now) unlabelled (whole (entry_for entrypoint))
-        (entering fresh events reports pool)).on }
+) -> Run
+    ensures { Ran (entry_for entrypoint) tokens events reports pool result }
 {
-    let p = Parser::new();
-    let parsed = enter(p, tokens, events, reports, pool, entrypoint);
-    left_over(parsed, tokens, events, reports, pool)
+    let mut p = Parser {
+        tokens,
+        events,
+        events_written: 0,
+        reports,
+        reports_written: 0,
+        pool,
+        pool_written: 0,
+        cursor: TokenIndex(0),
+        byte: ByteOffset(0),
+        mark: TokenIndex(0),
+        mark_byte: ByteOffset(0),
+        pending: Pending::none(),
+        refused: None,
+    };
+    enter(&mut p, entrypoint);
+    left_over(&mut p);
+    Run {
+        events_written: p.events_written,
+        reports_written: p.reports_written,
+        pool_written: p.pool_written,
+        refused: p.refused,
+    }
 }

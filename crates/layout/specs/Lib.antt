@@ -1,2 +1,3 @@
--- What the contracts over lent buffers cite.
+-- What the contracts over kinds, numbers and lent buffers cite.
+pub mod Numbers
 pub mod Rows

@@ -1,4 +1,26 @@
 // event.rs: the first number of an event row.
+ghost use Rattle.std.specs.Prelude.{◌≡◌};
+ghost use Rattle.layout.specs.Numbers.{tag_number};
+
+#[derive(Clone, Copy, PartialEq, Eq)]
+pub enum EventTag {
+    Placeholder,
+    StartNode,
+    AddToken,
+    AddCombinedToken,
+    FinishNode,
+    Error,
+    LinkedStartNode,
+}
+
+impl EventTag {
+    pub fn number(self) -> u32
+        ensures { result ≡ tag_number self }
+    {
+        self as u32
+    }
+}
+
 pub const PLACEHOLDER: u32 = 0;
 
 pub const START_NODE: u32 = 1;

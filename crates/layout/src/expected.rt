@@ -1,4 +1,41 @@
 // errors.rs: the cases of `Expected` beside `Kind`, in their order. A kind is its own number.
+ghost use Rattle.std.specs.Prelude.{◌≡◌};
+ghost use Rattle.layout.specs.Numbers.{expected_number};
+
+use crate::token_kind::TokenKind;
+
+#[derive(Clone, Copy, PartialEq, Eq)]
+pub enum Expected {
+    Kind(TokenKind),
+    PreprocessorDirective,
+    PreprocessorDefinedOperator,
+    Value,
+    Cell,
+    LabelName,
+    InfixOperator,
+    PrefixOperator,
+    End,
+}
+
+impl Expected {
+    // A kind is its own number.
+    pub fn number(self) -> u8
+        ensures { result ≡ expected_number self }
+    {
+        match self {
+            Expected::Kind(kind) => kind.number(),
+            Expected::PreprocessorDirective => 101,
+            Expected::PreprocessorDefinedOperator => 102,
+            Expected::Value => 103,
+            Expected::Cell => 104,
+            Expected::LabelName => 105,
+            Expected::InfixOperator => 106,
+            Expected::PrefixOperator => 107,
+            Expected::End => 108,
+        }
+    }
+}
+
 pub const PREPROCESSOR_DIRECTIVE: u8 = 101;
 
 pub const PREPROCESSOR_DEFINED_OPERATOR: u8 = 102;

@@ -1,4 +1,28 @@
 // errors.rs: the messages of a report.
+ghost use Rattle.std.specs.Prelude.{◌≡◌};
+ghost use Rattle.layout.specs.Numbers.{message_number};
+
+#[derive(Clone, Copy, PartialEq, Eq)]
+pub enum Message {
+    Expected = 1,
+    UnmatchedRcurly,
+    UnmatchedSemicolon,
+    UnmatchedEndif,
+    StrayContinuation,
+    AtSignInLabel,
+    UnclosedNode,
+    // In the strict setting alone.
+    NotALabel,
+}
+
+impl Message {
+    pub fn number(self) -> u32
+        ensures { result ≡ message_number self }
+    {
+        self as u32
+    }
+}
+
 pub const EXPECTED: u32 = 1;
 
 pub const UNMATCHED_RCURLY: u32 = 2;

@@ -1,4 +1,44 @@
 // cst.rs: `NodeKind`, in its order.
+ghost use Rattle.std.specs.Prelude.{◌≡◌};
+ghost use Rattle.layout.specs.Numbers.{node_number};
+
+#[derive(Clone, Copy, PartialEq, Eq)]
+pub enum NodeKind {
+    SourceFile,
+    EntryName,
+    EntryPropValues,
+    EntryCells,
+    EntryPreprocessorConditional,
+    PreprocessorDefinedOperation,
+    InfixExpr,
+    PrefixExpr,
+    ParenExpr,
+    LiteralExpr,
+    ParseError,
+    DtsDirective,
+    DtsDirectiveArguments,
+    PreprocessorConditional,
+    PreprocessorBranch,
+    DtNode,
+    DtProperty,
+    DtCellList,
+    DtExpr,
+    DtLabel,
+    PropValueList,
+    DtPhandle,
+    UnitAddress,
+    MacroInvocation,
+    MacroArgument,
+}
+
+impl NodeKind {
+    pub fn number(self) -> u32
+        ensures { result ≡ node_number self }
+    {
+        self as u32
+    }
+}
+
 pub const SOURCE_FILE: u32 = 0;
 
 pub const ENTRY_NAME: u32 = 1;

@@ -1,4 +1,32 @@
 // Document 01's causes.
+ghost use Rattle.std.specs.Prelude.{◌≡◌};
+ghost use Rattle.layout.specs.Numbers.{refusal_number};
+
+#[derive(Clone, Copy, PartialEq, Eq)]
+pub enum Refusal {
+    UnknownEntry = 1,
+    TooLong,
+    OddCount,
+    BadText,
+    TooDeep,
+    NoEventRoom,
+    NoReportRoom,
+    NoTreeRoom,
+    HighByte,
+    Directive,
+    BadKind,
+    ZeroLength,
+    BadEnd,
+}
+
+impl Refusal {
+    pub fn number(self) -> u32
+        ensures { result ≡ refusal_number self }
+    {
+        self as u32
+    }
+}
+
 pub const UNKNOWN_ENTRY: u32 = 1;
 
 pub const TOO_LONG: u32 = 2;

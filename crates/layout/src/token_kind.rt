@@ -1,4 +1,80 @@
 // lexer.rs: `TokenKind`, in its order.
+ghost use Rattle.std.specs.Prelude.{◌≡◌};
+ghost use Rattle.layout.specs.Numbers.{kind_number};
+
+#[derive(Clone, Copy, PartialEq, Eq)]
+pub enum TokenKind {
+    Whitespace,
+    BlockComment,
+    Comma,
+    LineComment,
+    IfDirective,
+    IfdefDirective,
+    IfndefDirective,
+    ElifDirective,
+    ElifdefDirective,
+    ElifndefDirective,
+    ElseDirective,
+    EndifDirective,
+    PragmaDirective,
+    DefineDirective,
+    UndefDirective,
+    IncludeDirective,
+    ErrorDirective,
+    BitsDirective,
+    OmitIfNoRefDirective,
+    DtIncludeDirective,
+    MemreserveDirective,
+    DeleteNodeDirective,
+    DeletePropertyDirective,
+    V1Directive,
+    PluginDirective,
+    Unrecognized,
+    Name,
+    Ident,
+    Equals,
+    Semicolon,
+    Ampersand,
+    Colon,
+    AtSign,
+    String,
+    Char,
+    Number,
+    DtBytestring,
+    LCurly,
+    RCurly,
+    LAngle,
+    RAngle,
+    LParen,
+    RParen,
+    Plus,
+    Minus,
+    Asterisk,
+    Slash,
+    Modulo,
+    BitwiseOr,
+    BitwiseXor,
+    BitwiseNot,
+    BitwiseShl,
+    BitwiseShr,
+    LogicalAnd,
+    LogicalOr,
+    LogicalNot,
+    RelationalLtEq,
+    RelationalGtEq,
+    RelationalEq,
+    RelationalNeq,
+    QuestionMark,
+}
+
+impl TokenKind {
+    pub fn number(self) -> u8
+        ensures { result ≡ kind_number self }
+    {
+        self as u8
+    }
+}
+
 pub const WHITESPACE: u8 = 0;
 
 pub const BLOCK_COMMENT: u8 = 1;

@@ -1,3 +1,3 @@
 -- What the proofs of the functions share.
 pub mod Opened
-pub mod Arguments
+pub mod Tokens

@@ -2,8 +2,8 @@
 use Rattle.std.specs.Prelude.{ℕ, zero, suc, cond, eqb}
 use Rattle.definitions.specs.TokenKind as K
 use Rattle.token_rows.specs.Tokens.{SEEN_AT_END}
-use Rattle.macros.specs.declared.invocation.Role.{Role}
-use Rattle.macros.specs.declared.invocation.Role.TheVariants.{Comma, End, Inside}
+use Rattle.macros.specs.declared.Role.{Role}
+use Rattle.macros.specs.declared.Role.TheVariants.{Comma, End, Inside}
 
 -- in so many inner brackets: outside all of them p
 abbrev pub within : ℕ → Role → Role → Role

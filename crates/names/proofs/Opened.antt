@@ -1,65 +1,22 @@
--- What the names of the grammar's programs stand for: each line of Grammar.antt and Check.antt that a proof here looks
--- into.
+-- What the names of the grammar's programs stand for: each line of Grammar.antt that a proof here looks into.
 use mathlib.Core.Path.{◌≡◌, refl}
 use mathlib.Core.List.{[], ◌∷◌}
 use Rattle.definitions.specs.TokenKind as K
 use Rattle.definitions.specs.NodeKind as N
-use Rattle.definitions.specs.Prog.{no, yes, silent_at, bump_name, act, ◌⨟◌, loop}
-use Rattle.definitions.specs.Check.{tell, when◌then◌else◌, ◌and◌, not!, while◌run◌, in_node, end?, bump!, expected, error!, error_wrap!, Matcher, of_kind, NAME_SET, Name, LabelName, silent, at, silent_eat, eat, expect}
+use Rattle.definitions.specs.Prog.{yes, silent_at, bump_name, act, ◌⨟◌, loop}
+use Rattle.definitions.specs.Check.{tell, when◌then◌else◌, ◌and◌, not!, while◌run◌, in_node, end?, bump!, error_wrap!, of_kind, NAME_SET, Name, LabelName, silent, at, eat, expect}
 use Rattle.definitions.specs.Grammar.{CONTINUE_COND_SET, macro_invocation, silent_at_macro_invocation_with_args, MacroSubstitutableName, UnitAddress, path_segment, path_turn, path_rest, reference_noamp, Reference}
 use Rattle.names.specs.Subprograms.{at_segment, path}
 
--- ---------------------------------------------------------------- Check.antt
-
-pub silent_eat_is : (m : Matcher) → silent_eat m ≡ when m.matches then m.consume ⨟ tell yes else tell no
-unfolding silent_eat
-silent_eat_is m = refl
-
-pub eat_is : (m : Matcher) → eat m ≡ when m.matches then m.consume ⨟ tell yes else m.push_expected ⨟ tell no
-unfolding eat
-eat_is m = refl
-
-pub expect_is : (m : Matcher) → expect m ≡ when eat m then tell yes else error! ⨟ tell no
-unfolding expect
-expect_is m = refl
-
 -- ---------------------------------------------------------------- the grammar's matchers
-
-pub name_matches_is : MacroSubstitutableName.matches ≡ act (silent_at NAME_SET)
-unfolding MacroSubstitutableName
-name_matches_is = refl
-
-pub name_expected_is : MacroSubstitutableName.push_expected ≡ expected K.Name
-unfolding MacroSubstitutableName
-name_expected_is = refl
 
 pub name_consume_is : MacroSubstitutableName.consume ≡ when silent_at_macro_invocation_with_args then macro_invocation else act (bump_name NAME_SET)
 unfolding MacroSubstitutableName
 name_consume_is = refl
 
-pub name_at_is : at MacroSubstitutableName ≡ at Name
-unfolding MacroSubstitutableName at
-name_at_is = refl
-
-pub address_matches_is : UnitAddress.matches ≡ act (silent_at (K.AtSign ∷ []))
-unfolding UnitAddress
-address_matches_is = refl
-
-pub address_expected_is : UnitAddress.push_expected ≡ expected K.AtSign
-unfolding UnitAddress
-address_expected_is = refl
-
 pub address_consume_is : UnitAddress.consume ≡ in_node N.UnitAddress (bump! ⨟ expect MacroSubstitutableName)
 unfolding UnitAddress
 address_consume_is = refl
-
-pub reference_matches_is : Reference.matches ≡ act (silent_at (K.Ampersand ∷ []))
-unfolding Reference
-reference_matches_is = refl
-
-pub reference_expected_is : Reference.push_expected ≡ expected K.Ampersand
-unfolding Reference
-reference_expected_is = refl
 
 pub reference_consume_is : Reference.consume ≡ in_node N.DtPhandle (bump! ⨟ reference_noamp)
 unfolding Reference

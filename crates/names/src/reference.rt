@@ -1,270 +1,108 @@
 // The matcher Reference: an Ampersand and what `reference_noamp` of grammar.rs parses: a path in curly brackets, a
 // macro invocation with arguments, or a label.
-ghost use Rattle.std.specs.Prelude.{◌≡◌, true, ◌-◌, ◌≤◌, ◌<◌};
+ghost use Rattle.std.specs.Prelude.{◌≡◌, true, ◌<◌};
 ghost use Rattle.definitions.specs.Prog.{yes, loop};
-ghost use Rattle.definitions.specs.Check.{silent_eat as silent_eat_prog, eat as eat_prog};
-ghost use Rattle.definitions.specs.Grammar.{path_segment, path_turn, path_rest, reference_noamp, Reference};
-ghost use Rattle.parser.specs.View.{tokens_left, state_tested, Looks, says, Walks, WalksOn};
+ghost use Rattle.definitions.specs.Run.{truth};
+ghost use Rattle.definitions.specs.Grammar.{path_segment, path_turn, path_rest, reference_noamp, Reference as matcher_of_references};
+ghost use Rattle.parser.specs.View.{tokens_left, Walks, WalksOn, TakesOne};
 ghost use Rattle.names.specs.Subprograms.{at_segment, path};
 
-use crate::unit_address;
-use layout::hint::NO_HINT;
-use layout::limit::Codes;
-use layout::message::EXPECTED;
+use crate::unit_address::UnitAddress;
+use layout::message::Message;
+use layout::node_kind::NodeKind;
 use layout::set::CONTINUE_COND_SET;
-use layout::{node_kind, token_kind};
-use macros::invocation::macro_invocation;
+use layout::token_kind::TokenKind;
+use macros::macro_invocation;
+use parser::Parser;
 use parser::errors::Bump;
-use parser::marker::Marker;
-use parser::matcher::Matcher;
-use parser::{State, StateTested};
+use parser::matcher::{Matcher, TokenMatcher};
 
-fn path_segment(
-    s: State,
-    codes: &mut Codes,
-    tokens: &[u32],
-    events: &mut [u32],
-    reports: &mut [u32],
-    pool: &mut [u32],
-) -> State
-    ensures walks_on { WalksOn path_segment s result codes tokens events reports pool }
-    ensures result_bound { tokens_left tokens.now result ≤ tokens_left tokens.now s - 1 }
+// A node's name and its unit address, if it has one.
+fn path_segment(p: &mut Parser)
+    ensures walks { WalksOn path_segment p.old p.new }
+    ensures taken { TakesOne p.old p.new }
 {
-    let name = s.eat(codes, tokens, events, Matcher::Name);
-    if name.yes {
-        let unit = unit_address::eat(name.s, codes, tokens, events, reports, pool);
-        unit.s
+    if p.eat(Matcher::Name) {
+        p.eat(UnitAddress);
     } else {
-        name.s.error(
-            codes,
-            tokens,
-            events,
-            reports,
-            pool,
-            EXPECTED,
-            NO_HINT,
-            Bump::YesWrapErr,
-        )
+        p.error(Message::Expected, None, Bump::YesWrapErr);
     }
 }
 
 // Whether a path goes on here.
-fn at_segment(s: State, codes: &mut Codes, tokens: &[u32]) -> StateTested
-    ensures looks { Looks at_segment s (state_tested result) codes tokens }
-    ensures s_bound { tokens_left tokens.now result.s ≤ tokens_left tokens.now s }
-    ensures s_nonzero { result.yes ≡ true → 0 < tokens_left tokens.now s }
+fn at_segment(p: &mut Parser) -> bool
+    ensures walks { Walks at_segment p.old (truth result) p.new }
+    ensures some { result ≡ true → 0 < tokens_left p.old }
 {
-    let rcurly = s.at(codes, tokens, Matcher::Kind(token_kind::RCURLY));
-    if rcurly.yes {
-        let q = rcurly.s;
-        return StateTested { s: q, yes: false };
-    }
-    let end = rcurly.s.at_end(tokens);
-    if end.yes {
-        let q = end.s;
-        return StateTested { s: q, yes: false };
-    }
-    let branch = end.s.silent_at_set(tokens, &CONTINUE_COND_SET);
-    if branch.yes {
-        let q = branch.s;
-        return StateTested { s: q, yes: false };
-    }
-    let endif = branch.s.silent_at(tokens, token_kind::ENDIF_DIRECTIVE);
-    let q = endif.s;
-    if endif.yes {
-        StateTested { s: q, yes: false }
-    } else {
-        StateTested { s: q, yes: true }
-    }
+    !p.at(Matcher::Kind(TokenKind::RCurly))
+        && !p.at_end()
+        && !p.silent_at_set(&CONTINUE_COND_SET)
+        && !p.silent_at(TokenKind::EndifDirective)
 }
 
 // A slash and a segment, again and again.
-fn path_segments(
-    s: State,
-    codes: &mut Codes,
-    tokens: &[u32],
-    events: &mut [u32],
-    reports: &mut [u32],
-    pool: &mut [u32],
-) -> State
-    ensures walks { Walks (loop path_turn) s (says yes result) codes tokens events reports pool }
-    ensures result_bound { tokens_left tokens.now result ≤ tokens_left tokens.now s }
+fn path_segments(p: &mut Parser)
+    ensures { Walks (loop path_turn) p.old yes p.new }
 {
-    let mut q = s;
-    loop {
-        let more = at_segment(q, codes, tokens);
-        if more.yes {
-            let slash = more.s.expect(
-                codes,
-                tokens,
-                events,
-                reports,
-                pool,
-                Matcher::Kind(token_kind::SLASH),
-            );
-            q = path_segment(slash.s, codes, tokens, events, reports, pool);
-        } else {
-            return more.s;
-        }
+    while at_segment(p) {
+        p.expect(Matcher::Kind(TokenKind::Slash));
+        path_segment(p);
     }
 }
 
-fn path_rest(
-    s: State,
-    codes: &mut Codes,
-    tokens: &[u32],
-    events: &mut [u32],
-    reports: &mut [u32],
-    pool: &mut [u32],
-) -> State
-    ensures walks_on { WalksOn path_rest s result codes tokens events reports pool }
-    ensures result_bound { tokens_left tokens.now result ≤ tokens_left tokens.now s }
+fn path_rest(p: &mut Parser)
+    ensures { WalksOn path_rest p.old p.new }
 {
-    let segments = path_segments(s, codes, tokens, events, reports, pool);
-    let end = segments.expect(
-        codes,
-        tokens,
-        events,
-        reports,
-        pool,
-        Matcher::Kind(token_kind::RCURLY),
-    );
-    end.s
+    path_segments(p);
+    p.expect(Matcher::Kind(TokenKind::RCurly));
 }
 
 // After the LCurly: an absolute path starts with a slash, a relative one with a label.
-fn path(
-    s: State,
-    codes: &mut Codes,
-    tokens: &[u32],
-    events: &mut [u32],
-    reports: &mut [u32],
-    pool: &mut [u32],
-) -> State
-    ensures walks_on { WalksOn path s result codes tokens events reports pool }
-    ensures result_bound { tokens_left tokens.now result ≤ tokens_left tokens.now s }
+fn path(p: &mut Parser)
+    ensures { WalksOn path p.old p.new }
 {
-    let absolute = s.eat(codes, tokens, events, Matcher::Kind(token_kind::SLASH));
-    if absolute.yes {
-        let root = absolute
-            .s
-            .eat(codes, tokens, events, Matcher::Kind(token_kind::RCURLY));
-        if root.yes {
-            return root.s;
+    if p.eat(Matcher::Kind(TokenKind::Slash)) {
+        if p.eat(Matcher::Kind(TokenKind::RCurly)) {
+            return;
         }
-        let segment = path_segment(root.s, codes, tokens, events, reports, pool);
-        return path_rest(segment, codes, tokens, events, reports, pool);
+        path_segment(p);
+    } else if !p.eat(Matcher::Name) {
+        p.error(Message::Expected, None, Bump::YesWrapErr);
     }
-    let label = absolute.s.eat(codes, tokens, events, Matcher::Name);
-    if label.yes {
-        return path_rest(label.s, codes, tokens, events, reports, pool);
-    }
-    let q = label.s.error(
-        codes,
-        tokens,
-        events,
-        reports,
-        pool,
-        EXPECTED,
-        NO_HINT,
-        Bump::YesWrapErr,
-    );
-    path_rest(q, codes, tokens, events, reports, pool)
+    path_rest(p);
 }
 
-pub fn reference_noamp(
-    s: State,
-    codes: &mut Codes,
-    tokens: &[u32],
-    events: &mut [u32],
-    reports: &mut [u32],
-    pool: &mut [u32],
-) -> State
-    ensures walks_on { WalksOn reference_noamp s result codes tokens events reports pool }
-    ensures result_bound { tokens_left tokens.now result ≤ tokens_left tokens.now s }
+pub fn reference_noamp(p: &mut Parser)
+    ensures { WalksOn reference_noamp p.old p.new }
 {
-    let braced = s.eat(codes, tokens, events, Matcher::Kind(token_kind::LCURLY));
-    if braced.yes {
-        return path(braced.s, codes, tokens, events, reports, pool);
-    }
-    let args = braced.s.silent_at_macro_invocation_with_args(tokens);
-    if args.yes {
-        return macro_invocation(args.s, codes, tokens, events, reports, pool);
-    }
-    let label = args.s.eat(codes, tokens, events, Matcher::LabelName);
-    if label.yes {
-        return label.s;
-    }
-    label.s.error(
-        codes,
-        tokens,
-        events,
-        reports,
-        pool,
-        EXPECTED,
-        NO_HINT,
-        Bump::YesWrapErr,
-    )
-}
-
-fn consume(
-    s: State,
-    codes: &mut Codes,
-    tokens: &[u32],
-    events: &mut [u32],
-    reports: &mut [u32],
-    pool: &mut [u32],
-) -> State
-    ensures walks { Walks Reference.consume s (says yes result) codes tokens events reports pool }
-    ensures result_bound { tokens_left tokens.now result ≤ tokens_left tokens.now s - 1 }
-{
-    let m = Marker::new(s);
-    let started = s.start(events);
-    let ampersand = started.bump(tokens, events);
-    let reference = reference_noamp(ampersand, codes, tokens, events, reports, pool);
-    reference.complete(events, m, node_kind::DT_PHANDLE)
-}
-
-// `check(Reference).silent().eat()`
-pub fn silent_eat(
-    s: State,
-    codes: &mut Codes,
-    tokens: &[u32],
-    events: &mut [u32],
-    reports: &mut [u32],
-    pool: &mut [u32],
-) -> StateTested
-    ensures walks { Walks (silent_eat_prog Reference) s (state_tested result) codes tokens events reports pool }
-    ensures s_bound { tokens_left tokens.now result.s ≤ tokens_left tokens.now s }
-    ensures s_bound_2 { result.yes ≡ true → tokens_left tokens.now result.s ≤ tokens_left tokens.now s - 1 }
-{
-    let ampersand = s.silent_at(tokens, token_kind::AMPERSAND);
-    if ampersand.yes {
-        let q = consume(ampersand.s, codes, tokens, events, reports, pool);
-        StateTested { s: q, yes: true }
-    } else {
-        ampersand
+    if p.eat(Matcher::Kind(TokenKind::LCurly)) {
+        path(p);
+    } else if p.silent_at_macro_invocation_with_args() {
+        macro_invocation(p);
+    } else if !p.eat(Matcher::LabelName) {
+        p.error(Message::Expected, None, Bump::YesWrapErr);
     }
 }
 
-pub fn eat(
-    s: State,
-    codes: &mut Codes,
-    tokens: &[u32],
-    events: &mut [u32],
-    reports: &mut [u32],
-    pool: &mut [u32],
-) -> StateTested
-    ensures walks { Walks (eat_prog Reference) s (state_tested result) codes tokens events reports pool }
-    ensures s_bound { tokens_left tokens.now result.s ≤ tokens_left tokens.now s }
-    ensures s_bound_2 { result.yes ≡ true → tokens_left tokens.now result.s ≤ tokens_left tokens.now s - 1 }
-{
-    let ampersand = s.silent_at(tokens, token_kind::AMPERSAND);
-    if ampersand.yes {
-        let q = consume(ampersand.s, codes, tokens, events, reports, pool);
-        StateTested { s: q, yes: true }
-    } else {
-        let q = ampersand.s.add_expected(codes, token_kind::AMPERSAND);
-        StateTested { s: q, yes: false }
+#[derive(Clone, Copy)]
+pub struct Reference;
+
+#[tactic(auto, unfolding(definitions::specs::Grammar::Reference))]
+impl TokenMatcher for Reference {
+    ghost matcher = { λ m. matcher_of_references };
+
+    fn matches(self, p: &mut Parser) -> bool {
+        p.silent(Matcher::Kind(TokenKind::Ampersand))
+    }
+
+    fn push_expected(self, p: &mut Parser) {
+        Matcher::Kind(TokenKind::Ampersand).push_expected(p);
+    }
+
+    fn consume(self, p: &mut Parser) {
+        let m = p.start();
+        p.bump();
+        reference_noamp(p);
+        m.complete(p, NodeKind::DtPhandle);
     }
 }

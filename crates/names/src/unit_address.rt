@@ -1,52 +1,31 @@
 // The matcher UnitAddress: an AtSign and a name.
-ghost use Rattle.std.specs.Prelude.{◌≡◌, true, ◌-◌, ◌≤◌};
-ghost use Rattle.definitions.specs.Prog.{yes};
-ghost use Rattle.definitions.specs.Check.{eat as eat_prog};
-ghost use Rattle.definitions.specs.Grammar.{UnitAddress};
-ghost use Rattle.parser.specs.View.{tokens_left, state_tested, says, Walks};
+ghost use Rattle.definitions.specs.Grammar.{UnitAddress as matcher_of_addresses};
 
-use crate::macro_substitutable_name;
-use layout::limit::Codes;
-use layout::{node_kind, token_kind};
-use parser::marker::Marker;
-use parser::{State, StateTested};
+use crate::macro_substitutable_name::MacroSubstitutableName;
+use layout::node_kind::NodeKind;
+use layout::token_kind::TokenKind;
+use parser::Parser;
+use parser::matcher::{Matcher, TokenMatcher};
 
-fn consume(
-    s: State,
-    codes: &mut Codes,
-    tokens: &[u32],
-    events: &mut [u32],
-    reports: &mut [u32],
-    pool: &mut [u32],
-) -> State
-    ensures walks { Walks UnitAddress.consume s (says yes result) codes tokens events reports pool }
-    ensures result_bound { tokens_left tokens.now result ≤ tokens_left tokens.now s - 1 }
-{
-    let m = Marker::new(s);
-    let started = s.start(events);
-    let at_sign = started.bump(tokens, events);
-    let name = macro_substitutable_name::expect(at_sign, codes, tokens, events, reports, pool);
-    name.complete(events, m, node_kind::UNIT_ADDRESS)
-}
+#[derive(Clone, Copy)]
+pub struct UnitAddress;
 
-pub fn eat(
-    s: State,
-    codes: &mut Codes,
-    tokens: &[u32],
-    events: &mut [u32],
-    reports: &mut [u32],
-    pool: &mut [u32],
-) -> StateTested
-    ensures walks { Walks (eat_prog UnitAddress) s (state_tested result) codes tokens events reports pool }
-    ensures s_bound { tokens_left tokens.now result.s ≤ tokens_left tokens.now s }
-    ensures s_bound_2 { result.yes ≡ true → tokens_left tokens.now result.s ≤ tokens_left tokens.now s - 1 }
-{
-    let at_sign = s.silent_at(tokens, token_kind::AT_SIGN);
-    if at_sign.yes {
-        let q = consume(at_sign.s, codes, tokens, events, reports, pool);
-        StateTested { s: q, yes: true }
-    } else {
-        let q = at_sign.s.add_expected(codes, token_kind::AT_SIGN);
-        StateTested { s: q, yes: false }
+#[tactic(auto, unfolding(definitions::specs::Grammar::UnitAddress))]
+impl TokenMatcher for UnitAddress {
+    ghost matcher = { λ m. matcher_of_addresses };
+
+    fn matches(self, p: &mut Parser) -> bool {
+        p.silent(Matcher::Kind(TokenKind::AtSign))
+    }
+
+    fn push_expected(self, p: &mut Parser) {
+        Matcher::Kind(TokenKind::AtSign).push_expected(p);
+    }
+
+    fn consume(self, p: &mut Parser) {
+        let m = p.start();
+        p.bump();
+        p.expect(MacroSubstitutableName);
+        m.complete(p, NodeKind::UnitAddress);
     }
 }

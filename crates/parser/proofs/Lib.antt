@@ -1,6 +1,8 @@
--- What the proofs of the functions share. `Programs` is for the grammar's proofs too.
-pub mod Stores
+-- What the proofs of the functions share.
 pub mod Lists
+pub mod Marks
+pub mod Matching
 pub mod Moves
 pub mod Reports
-pub mod Programs
+pub mod Stores
+pub mod Ways

@@ -1,74 +1,98 @@
--- What each step of the literal machine comes to, in plain variables: the cursor's moves, refusals, events, tokens and
--- names taken.
--- A need of the code cites one of these.
-use Prim.Native.Nat.{ℕ, ◌+◌, ◌-◌, ◌/◌, ◌≤◌, ◌<◌}
-use mathlib.Core.Path.{◌≡◌, refl, sym, ◌∙◌, ap}
-use mathlib.Core.Bool.{Bool, true, false, cond, ◌&&◌}
-use mathlib.Core.List.{List, [], ◌∷◌, ◌++◌}
+-- What each step of the literal machine comes to: expectations, the cursor's moves, tests, tokens and names taken.
+use Rattle.std.proofs.Common.{ℕ, ◌+◌, ◌-◌, ◌/◌, ◌≤◌, ◌<◌, ◌≡◌, refl, sym, ◌∙◌, ap, Bool, true, false, cond, not, ◌||◌, le_refl, List, [], ◌∷◌, length, drop, eqb, ltb, leb}
+use Rattle.std.specs.List.{list_any}
+use Rattle.std.proofs.lemmas.Bool.{lt-ltb, le-ltb, le-leb, eq-eqb, ne_eqb}
+use Rattle.basics.proofs.Tests.{eqb_swap}
 use native.Mathlib.Omega.{arith}
-use lib.Dec.{ltb, leb, eqb}
-use lib.ListN.{length, set, take, drop}
-use lib.Seq.{sets}
-use borrow.Author.Tests.{ltb-true, ltb-false}
-use Rattle.definitions.specs.Layout.{TOKEN_ROW, EVENT_ROW, EVENT_ARGUMENT, EVENT_DISTANCE, PLACEHOLDER, ADD_TOKEN, ADD_COMBINED_TOKEN, FINISH_NODE, KIND_CODES, FIRST_OTHER, OTHER_CODES, MOST_PENDING}
-use Rattle.definitions.specs.Token.{Token, tokens_of, ended, one_of, first_in, seen}
-use Rattle.definitions.specs.Skeleton.{Span}
-use Rattle.definitions.specs.Prog.{Ans, yes, silent_at, at_end, add_expected, bump, bump_name}
-use Rattle.definitions.specs.Run.{truth}
 use Rattle.basics.specs.Word.{low}
-use Rattle.basics.specs.WordSet.{in_word, put_in_word}
-use Rattle.machine.specs.Machine.{Machine, Marker, Pending, with_taken, with_pending, with_events, arrived, expect_kind, expect_other, took, range_at, fits, put_start, put_link}
+use Rattle.definitions.specs.Layout.{TOKEN_ROW, ADD_TOKEN, ADD_COMBINED_TOKEN, KIND_CODES, FIRST_OTHER, OTHER_CODES}
+use Rattle.definitions.specs.Token.{Token, tokens_of, ended, one_of, first_in, seen, past}
+use Rattle.definitions.specs.Skeleton.{Span}
+use Rattle.definitions.specs.Prog.{yes, Act, act, silent_at, at_end, bump, bump_name, immediate_next}
+use Rattle.definitions.specs.Run.{truth}
+use Rattle.machine.specs.Machine.{Machine, Pending, with_taken, took, range_at, expect_kind, expect_other}
 use Rattle.machine.specs.Machine as M
 use Rattle.machine.specs.Walk.{Walked, said, perform}
-use Rattle.parser.specs.View.{view, parser_view, tokens_left, take_first}
-use Rattle.parser.specs.declared.State.{State}
-use Rattle.parser.specs.declared.Parser.{Parser}
 use Rattle.basics.proofs.TokenRows.{token_at, tokens_cons, tokens_end}
-use Rattle.token_rows.proofs.Seen.{end_row}
-use Rattle.parser.proofs.Stores.{pending_few, pending_full, sets2}
+use Rattle.token_rows.proofs.Seen.{end_row, one_of_one}
+use Rattle.parser.specs.View.{view, toks, rest, tokens_left, take_first, Same, Becomes, Walks}
+use Rattle.parser.specs.declared.Parser.{Parser}
+use Rattle.parser.proofs.Ways.{acts, same_self, same_then, same_toks}
 
--- ---------------------------------------------------------------- tests
+-- ---------------------------------------------------------------- membership
 
-pub on_true : {A : Type 0} (b c : Bool) (x y : A) → b ≡ c → b ≡ true → cond c x y ≡ x
-on_true b c x y e f = ap (λ (z : Bool). cond z x y) (sym e ∙ f)
+-- what `contains` answers
+pub any_one_of : (ks : List ℕ) (k : ℕ) → list_any (λ (x : ℕ). eqb x k) ks ≡ one_of ks k
+unfolding one_of
+any_one_of [] k = refl
+any_one_of (x ∷ ks) k = ap (λ (b : Bool). eqb x k || b) (any_one_of ks k) ∙ first (eqb x k) (one_of ks k)
+  where
+    first : (b c : Bool) → (b || c) ≡ cond b true c
+    first true c = refl
+    first false c = refl
 
-pub on_false : {A : Type 0} (b c : Bool) (x y : A) → b ≡ c → b ≡ false → cond c x y ≡ y
-on_false b c x y e f = ap (λ (z : Bool). cond z x y) (sym e ∙ f)
+-- the first of two kinds, and the second
+pub first_is : (a d k : ℕ) → k ≡ a → eqb k a ≡ one_of (a ∷ d ∷ []) k
+unfolding one_of
+first_is a d k e = eq-eqb k a e ∙ sym (ap (λ (b : Bool). cond b true (one_of (d ∷ []) k)) (eq-eqb a k (sym e)))
 
--- ---------------------------------------------------------------- the whole parser
+pub second_is : (a d k : ℕ) → (k ≡ a → ⊥) → eqb k d ≡ one_of (a ∷ d ∷ []) k
+unfolding one_of
+second_is a d k e = eqb_swap k d ∙ sym (one_of_one d k) ∙ sym (ap (λ (b : Bool). cond b true (one_of (d ∷ []) k)) (ne_eqb a k (λ f. e (sym f))))
 
--- with other numbers: what is known of the numbers is known of the parser
-pub with_view : (p : Parser) (codes : List ℕ) (s : State) (events reports pool : List ℕ) (m : Machine) → p ≡ record { codes = codes; s = s } → view s codes events reports pool ≡ m → parser_view p events reports pool ≡ m
-with_view p codes s events reports pool m e f = ap (λ (x : Parser). parser_view x events reports pool) e ∙ f
+-- ---------------------------------------------------------------- expectations
 
-pub with_said : (p : Parser) (codes : List ℕ) (s : State) (events reports pool : List ℕ) (a : Ans) (w : Walked) → p ≡ record { codes = codes; s = s } → said a (view s codes events reports pool) ≡ w
-    → said a (parser_view p events reports pool) ≡ w
-with_said p codes s events reports pool a w e f = ap (λ (x : Parser). said a (parser_view x events reports pool)) e ∙ f
+-- which of them a code is
+module _ (k : ℕ) (x : Pending) where
+  abbrev other : Pending
+  other = cond (ltb k (FIRST_OTHER + OTHER_CODES)) (expect_other k x) x
 
-pub with_left : (p : Parser) (codes : List ℕ) (s : State) (tokens : List ℕ) → p ≡ record { codes = codes; s = s } → tokens_left tokens p.s ≡ tokens_left tokens s
-with_left p codes s tokens e = ap (λ (x : Parser). tokens_left tokens x.s) e
+  abbrev else : Pending
+  else = cond (leb FIRST_OTHER k) other x
+
+  pub adds_kind : k < KIND_CODES → expect_kind k x ≡ M.expect k x
+  unfolding M.expect
+  adds_kind h = sym (ap (λ (c : Bool). cond c (expect_kind k x) else) (lt-ltb k KIND_CODES h))
+
+  pub adds_other : KIND_CODES ≤ k → FIRST_OTHER ≤ k → k < FIRST_OTHER + OTHER_CODES → expect_other k x ≡ M.expect k x
+  unfolding M.expect
+  adds_other h i j =
+      sym
+      (ap (λ (c : Bool). cond c (expect_kind k x) else) (le-ltb k KIND_CODES h)
+      ∙ ap (λ (c : Bool). cond c other x) (le-leb FIRST_OTHER k i)
+      ∙ ap (λ (c : Bool). cond c (expect_other k x) x) (lt-ltb k (FIRST_OTHER + OTHER_CODES) j))
 
 -- ---------------------------------------------------------------- the cursor
 
-pub peek_is : (ts : List Token) (m : Machine) → M.peek ts m ≡ M.skip (drop m.cursor ts) m
-unfolding M.peek
-peek_is ts m = refl
+pub range_rows : (l : List Token) (m : Machine) (e : ℕ) → e ≡ (range_at l m).to → record { from = m.byte; to = e } ≡ range_at l m
+unfolding range_at
+range_rows [] m e f = ap (λ (x : ℕ). record { from = m.byte; to = x }) f
+range_rows (t ∷ l) m e f = ap (λ (x : ℕ). record { from = m.byte; to = x }) f
 
-pub silent_is : (ts : List Token) (b : Span) (ks : List ℕ) (m p : Machine) (y : Bool) → p ≡ M.peek ts m → y ≡ first_in ks (drop p.cursor ts) → said (truth y) p ≡ perform ts b (silent_at ks) m
-unfolding perform
-silent_is ts b ks m p y e f = ap (λ (z : Bool). said (truth z) p) f ∙ ap (λ (x : Machine). said (truth (first_in ks (drop x.cursor ts))) x) e
-
-pub at_end_is : (ts : List Token) (b : Span) (m p : Machine) (y : Bool) → p ≡ M.peek ts m → y ≡ ended (drop p.cursor ts) → said (truth y) p ≡ perform ts b at_end m
-unfolding perform
-at_end_is ts b m p y e f = ap (λ (z : Bool). said (truth z) p) f ∙ ap (λ (x : Machine). said (truth (ended (drop x.cursor ts))) x) e
-
-pub ended_in : (tokens : List ℕ) (i : ℕ) → i < length tokens / TOKEN_ROW → false ≡ ended (drop i (tokens_of tokens))
+ended_in : (tokens : List ℕ) (i : ℕ) → i < length tokens / TOKEN_ROW → false ≡ ended (drop i (tokens_of tokens))
 ended_in tokens i h = sym (ap ended (tokens_cons tokens i h))
 
-pub ended_past : (tokens : List ℕ) (i : ℕ) → length tokens / TOKEN_ROW ≤ i → true ≡ ended (drop i (tokens_of tokens))
+ended_past : (tokens : List ℕ) (i : ℕ) → length tokens / TOKEN_ROW ≤ i → true ≡ ended (drop i (tokens_of tokens))
 ended_past tokens i h = sym (ap ended (tokens_end tokens i h))
 
--- the row at the cursor taken; a: its first byte, e: its end
+-- what is left tells whether there is a token
+pub some_left : (p : Parser) → 0 < tokens_left p → p.cursor.0 < length p.tokens.now / TOKEN_ROW
+unfolding tokens_left
+some_left p h = omega (arith, h)
+
+pub none_left : (p : Parser) → tokens_left p ≡ 0 → length p.tokens.now / TOKEN_ROW ≤ p.cursor.0
+unfolding tokens_left
+none_left p h = omega (arith, h)
+
+pub in_rows : (p : Parser) → p.cursor.0 < length p.tokens.now / TOKEN_ROW → 0 < tokens_left p
+unfolding tokens_left
+in_rows p h = omega (arith, h)
+
+pub ended_rest : (p : Parser) (b : Bool) → (b ≡ true → 0 < tokens_left p) → (b ≡ false → tokens_left p ≡ 0) → not b ≡ ended (rest p)
+ended_rest p true f g = ended_in p.tokens.now p.cursor.0 (some_left p (f refl))
+ended_rest p false f g = ended_past p.tokens.now p.cursor.0 (none_left p (g refl))
+
+-- the row at the cursor taken; e: its end
 pub took_row : (tokens : List ℕ) (e : ℕ) (m : Machine) → m.cursor < length tokens / TOKEN_ROW
     → ((x : Machine) → x.byte ≡ m.byte → e ≡ (range_at (drop m.cursor (tokens_of tokens)) x).to)
     → with_taken (m.cursor + 1) e m ≡ take_first (drop m.cursor (tokens_of tokens)) m
@@ -80,158 +104,71 @@ pub took_nothing : (tokens : List ℕ) (m : Machine) → length tokens / TOKEN_R
 unfolding take_first
 took_nothing tokens m h = sym (ap (λ (l : List Token). take_first l m) (tokens_end tokens m.cursor h))
 
--- ---------------------------------------------------------------- expectations
+-- ---------------------------------------------------------------- tests
 
--- the codes after `put_code`: at the end of the list, if it is not full
-pub code_arrives : (codes l : List ℕ) (n k : ℕ) → length codes ≡ MOST_PENDING → l ≡ cond (ltb n (length codes)) (take n codes ++ (k ∷ [])) (take n codes) → l ≡ arrived k (take n codes)
-code_arrives codes l n k long e = e ∙ ap (λ (b : Bool). cond b (take n codes ++ (k ∷ [])) (take n codes)) (by_room (ltb n (length codes)) refl)
-  where
-    by_room : (b : Bool) → ltb n (length codes) ≡ b → b ≡ ltb (length (take n codes)) MOST_PENDING
-    by_room true f = sym (pending_few codes n long (omega (arith, long, ltb-true n (length codes) f)))
-    by_room false f = sym (pending_full codes n long (omega (arith, long, ltb-false n (length codes) f)))
+silent_is : (ts : List Token) (b : Span) (ks : List ℕ) (m p : Machine) (y : Bool) → p ≡ M.peek ts m → y ≡ first_in ks (drop p.cursor ts) → said (truth y) p ≡ perform ts b (silent_at ks) m
+unfolding perform
+silent_is ts b ks m p y e f = ap (λ (z : Bool). said (truth z) p) f ∙ ap (λ (x : Machine). said (truth (first_in ks (drop x.cursor ts))) x) e
 
--- a kind that is there, and one that arrives
-pub kind_there : (k : ℕ) (x : Pending) → in_word k x.kinds ≡ true → x ≡ expect_kind k x
-kind_there k x e = sym (ap (λ (b : Bool). cond b x (record { codes = arrived k x.codes; kinds = put_in_word k x.kinds; others = x.others })) e)
+at_end_is : (ts : List Token) (b : Span) (m p : Machine) (y : Bool) → p ≡ M.peek ts m → y ≡ ended (drop p.cursor ts) → said (truth y) p ≡ perform ts b at_end m
+unfolding perform
+at_end_is ts b m p y e f = ap (λ (z : Bool). said (truth z) p) f ∙ ap (λ (x : Machine). said (truth (ended (drop x.cursor ts))) x) e
 
-pub kind_new : (k : ℕ) (l : List ℕ) (y : ℕ) (x : Pending) → in_word k x.kinds ≡ false → l ≡ arrived k x.codes → y ≡ put_in_word k x.kinds
-    → record { codes = l; kinds = y; others = x.others } ≡ expect_kind k x
-kind_new k l y x e f g =
-    rw (f, g) (sym (ap (λ (b : Bool). cond b x (record { codes = arrived k x.codes; kinds = put_in_word k x.kinds; others = x.others })) e))
+-- q: after the peek
+pub walks_silent : (ks : List ℕ) (y : Bool) (p q : Parser) → Becomes (M.peek (toks p)) p q → y ≡ first_in ks (rest q) → Walks (act (silent_at ks)) p (truth y) q
+walks_silent ks y p q e f =
+    acts (λ b. silent_is (toks p) b ks (view p) (view q) y e.is (f ∙ ap (λ (l : List Token). first_in ks (drop q.cursor.0 l)) (same_toks e.same))) e.same e.left
 
--- the same of one of the others
-pub other_there : (k : ℕ) (x : Pending) → in_word (k - FIRST_OTHER) x.others ≡ true → x ≡ expect_other k x
-other_there k x e =
-    sym (ap (λ (b : Bool). cond b x (record { codes = arrived k x.codes; kinds = x.kinds; others = put_in_word (k - FIRST_OTHER) x.others })) e)
+pub walks_end : (y : Bool) (p q : Parser) → Becomes (M.peek (toks p)) p q → y ≡ ended (rest q) → Walks (act at_end) p (truth y) q
+walks_end y p q e f =
+    acts (λ b. at_end_is (toks p) b (view p) (view q) y e.is (f ∙ ap (λ (l : List Token). ended (drop q.cursor.0 l)) (same_toks e.same))) e.same e.left
 
-pub other_new : (k : ℕ) (l : List ℕ) (y : ℕ) (x : Pending) → in_word (k - FIRST_OTHER) x.others ≡ false → l ≡ arrived k x.codes → y ≡ put_in_word (k - FIRST_OTHER) x.others
-    → record { codes = l; kinds = x.kinds; others = y } ≡ expect_other k x
-other_new k l y x e f g =
-    rw (f, g) (sym (ap (λ (b : Bool). cond b x (record { codes = arrived k x.codes; kinds = x.kinds; others = put_in_word (k - FIRST_OTHER) x.others })) e))
+-- the row after the one at the cursor
+pub walks_next : (k : ℕ) (y : Bool) (p : Parser) → y ≡ first_in (k ∷ []) (past (rest p)) → Walks (act (immediate_next k)) p (truth y) p
+unfolding perform
+walks_next k y p e = acts (λ b. ap (λ (z : Bool). said (truth z) (view p)) e) same_self (le_refl _)
 
--- which of them a code is
-module _ (k : ℕ) (x : Pending) where
-  abbrev other : Pending
-  other = cond (ltb k (FIRST_OTHER + OTHER_CODES)) (expect_other k x) x
+-- ---------------------------------------------------------------- tokens taken
 
-  abbrev else : Pending
-  else = cond (leb FIRST_OTHER k) other x
+module _ (tokens : List ℕ) (b : Span) (m p : Machine) (e : p ≡ M.peek (tokens_of tokens) m) where
+  abbrev ts : List Token
+  ts = tokens_of tokens
 
-  pub adds_kind : (r : Pending) → ltb k KIND_CODES ≡ true → r ≡ expect_kind k x → r ≡ M.expect k x
-  unfolding M.expect
-  adds_kind r e f = f ∙ sym (ap (λ (c : Bool). cond c (expect_kind k x) else) e)
+  bump_in : (q r : Machine) → p.cursor < length tokens / TOKEN_ROW → q ≡ take_first (drop p.cursor ts) p → r ≡ M.push ADD_TOKEN 0 q → said yes r ≡ perform ts b bump m
+  unfolding perform M.bump M.bump_first take_first
+  bump_in q r h f g =
+      let d = tokens_cons tokens p.cursor h in
+      ap (λ (x : Machine). said yes x)
+      (g ∙ ap (λ (x : Machine). M.push ADD_TOKEN 0 x) (f ∙ ap (λ (l : List Token). take_first l p) d) ∙ sym (ap (λ (l : List Token). M.bump_first l p) d))
+      ∙ ap (λ (x : Machine). said yes (M.bump_first (drop x.cursor ts) x)) e
 
-  pub adds_other : (r : Pending) → ltb k KIND_CODES ≡ false → leb FIRST_OTHER k ≡ true → ltb k (FIRST_OTHER + OTHER_CODES) ≡ true → r ≡ expect_other k x → r ≡ M.expect k x
-  unfolding M.expect
-  adds_other r e f g h =
-      h ∙ sym (ap (λ (c : Bool). cond c (expect_kind k x) else) e ∙ ap (λ (c : Bool). cond c other x) f ∙ ap (λ (c : Bool). cond c (expect_other k x) x) g)
+  bump_past : length tokens / TOKEN_ROW ≤ p.cursor → said yes p ≡ perform ts b bump m
+  unfolding perform M.bump M.bump_first
+  bump_past h =
+      ap (λ (x : Machine). said yes x) (sym (ap (λ (l : List Token). M.bump_first l p) (tokens_end tokens p.cursor h)))
+      ∙ ap (λ (x : Machine). said yes (M.bump_first (drop x.cursor ts) x)) e
 
-  -- no expectation
-  pub adds_none : ltb k KIND_CODES ≡ false → leb FIRST_OTHER k ≡ false → x ≡ M.expect k x
-  unfolding M.expect
-  adds_none e f = sym (ap (λ (c : Bool). cond c (expect_kind k x) else) e ∙ ap (λ (c : Bool). cond c other x) f)
+  name_in : (ks : List ℕ) (q r x : Machine) (n : ℕ) → p.cursor < length tokens / TOKEN_ROW → q ≡ take_first (drop p.cursor ts) p → r ≡ M.name_stretch ks (drop q.cursor ts) q → n ≡ low (r.cursor - p.cursor)
+      → x ≡ M.push ADD_COMBINED_TOKEN n r → said yes x ≡ perform ts b (bump_name ks) m
+  unfolding perform M.bump_name M.name_first take_first
+  name_in ks q r x n h f g i j =
+      let d = tokens_cons tokens p.cursor h in
+      let t = token_at tokens p.cursor in
+      let z : r ≡ M.name_stretch ks (drop (p.cursor + 1) ts) (took t p) =
+      g ∙ ap (λ (y : Machine). M.name_stretch ks (drop y.cursor ts) y) (f ∙ ap (λ (l : List Token). take_first l p) d) in
+      ap (λ (y : Machine). said yes y)
+      (j ∙ ap (λ (v : ℕ). M.push ADD_COMBINED_TOKEN v r) i ∙ ap (λ (y : Machine). M.push ADD_COMBINED_TOKEN (low (y.cursor - p.cursor)) y) z
+      ∙ sym (ap (λ (l : List Token). M.name_first ks l p) d))
+      ∙ ap (λ (y : Machine). said yes (M.name_first ks (drop y.cursor ts) y)) e
 
-  pub adds_past : ltb k KIND_CODES ≡ false → leb FIRST_OTHER k ≡ true → ltb k (FIRST_OTHER + OTHER_CODES) ≡ false → x ≡ M.expect k x
-  unfolding M.expect
-  adds_past e f g = sym (ap (λ (c : Bool). cond c (expect_kind k x) else) e ∙ ap (λ (c : Bool). cond c other x) f ∙ ap (λ (c : Bool). cond c (expect_other k x) x) g)
-
--- pushed, on the machine
-pub expected_is : (ts : List Token) (b : Span) (k : ℕ) (x : Pending) (m : Machine) → x ≡ M.expect k m.pending → said yes (with_pending x m) ≡ perform ts b (add_expected k) m
-unfolding perform M.expect_code
-expected_is ts b k x m e = ap (λ (y : Pending). said yes (with_pending y m)) e
-
--- ---------------------------------------------------------------- events
-
-pub push_on : (tag value : ℕ) (m : Machine) → eqb m.refusal 0 ≡ true → M.push_row tag value m ≡ M.push tag value m
-unfolding M.push
-push_on tag value m e = sym (ap (λ (z : Bool). cond z (M.push_row tag value m) m) e)
-
-pub push_off : (tag value : ℕ) (m : Machine) → eqb m.refusal 0 ≡ false → m ≡ M.push tag value m
-unfolding M.push
-push_off tag value m e = sym (ap (λ (z : Bool). cond z (M.push_row tag value m) m) e)
-
-pub started : (l : List ℕ) (at tag kind : ℕ) (b : Bool) → b ≡ fits (length l) at EVENT_ROW → b ≡ true → set (set l at tag) (at + EVENT_ARGUMENT) kind ≡ put_start (record { index = at; tag = tag }) kind l
-started l at tag kind b e f = sets2 l at tag kind ∙ sym (on_true b (fits (length l) at EVENT_ROW) (sets l at (tag ∷ kind ∷ [])) l e f)
-
-pub not_started : (l : List ℕ) (at tag kind : ℕ) (b : Bool) → b ≡ fits (length l) at EVENT_ROW → b ≡ false → l ≡ put_start (record { index = at; tag = tag }) kind l
-not_started l at tag kind b e f = sym (on_false b (fits (length l) at EVENT_ROW) (sets l at (tag ∷ kind ∷ [])) l e f)
-
-pub linked : (l : List ℕ) (at to d : ℕ) (b : Bool) → b ≡ fits (length l) at EVENT_ROW → b ≡ true → leb at to ≡ true → d ≡ low ((to - at) / EVENT_ROW) → set l (at + EVENT_DISTANCE) d ≡ put_link at to l
-linked l at to d b e f g h =
-    ap (λ (x : ℕ). set l (at + EVENT_DISTANCE) x) h
-    ∙ sym (ap (λ (z : Bool). cond (z && leb at to) (sets l (at + EVENT_DISTANCE) (low ((to - at) / EVENT_ROW) ∷ [])) l) (sym e ∙ f) ∙ ap (λ (z : Bool). cond z (sets l (at + EVENT_DISTANCE) (low ((to - at) / EVENT_ROW) ∷ [])) l) g)
-
-pub not_ahead : (l : List ℕ) (at to : ℕ) (b : Bool) → b ≡ fits (length l) at EVENT_ROW → b ≡ true → leb at to ≡ false → l ≡ put_link at to l
-not_ahead l at to b e f g =
-    sym (ap (λ (z : Bool). cond (z && leb at to) (sets l (at + EVENT_DISTANCE) (low ((to - at) / EVENT_ROW) ∷ [])) l) (sym e ∙ f) ∙ ap (λ (z : Bool). cond z (sets l (at + EVENT_DISTANCE) (low ((to - at) / EVENT_ROW) ∷ [])) l) g)
-
-pub not_linked : (l : List ℕ) (at to : ℕ) (b : Bool) → b ≡ fits (length l) at EVENT_ROW → b ≡ false → l ≡ put_link at to l
-not_linked l at to b e f = sym (ap (λ (z : Bool). cond (z && leb at to) (sets l (at + EVENT_DISTANCE) (low ((to - at) / EVENT_ROW) ∷ [])) l) (sym e ∙ f))
-
--- events put-started, then a finish
-pub complete_on : (k : Marker) (kind : ℕ) (m r : Machine) (l : List ℕ) → eqb m.refusal 0 ≡ true → l ≡ put_start k kind m.events.numbers
-    → r ≡ M.push_row FINISH_NODE 0 (with_events (record { count = m.events.count; numbers = l }) m) → r ≡ M.complete k kind m
-unfolding M.complete
-complete_on k kind m r l e f g =
-    g ∙ ap (λ (x : List ℕ). M.push_row FINISH_NODE 0 (with_events (record { count = m.events.count; numbers = x }) m)) f
-    ∙ sym (ap (λ (z : Bool). cond z (M.push_row FINISH_NODE 0 (with_events (record { count = m.events.count; numbers = put_start k kind m.events.numbers }) m)) m) e)
-
-pub complete_off : (k : Marker) (kind : ℕ) (m : Machine) → eqb m.refusal 0 ≡ false → m ≡ M.complete k kind m
-unfolding M.complete
-complete_off k kind m e = sym (ap (λ (z : Bool). cond z (M.push_row FINISH_NODE 0 (with_events (record { count = m.events.count; numbers = put_start k kind m.events.numbers }) m)) m) e)
-
-abbrev preceded : Marker → Machine → Machine → Machine
-preceded k m p = cond (eqb p.refusal 0) (with_events (record { count = p.events.count; numbers = put_link k.index m.events.count p.events.numbers }) p) p
-
-pub precede_on : (k : Marker) (m p : Machine) (l : List ℕ) → p ≡ M.push PLACEHOLDER 0 m → eqb p.refusal 0 ≡ true → l ≡ put_link k.index m.events.count p.events.numbers
-    → with_events (record { count = p.events.count; numbers = l }) p ≡ M.precede k m
-unfolding M.precede
-precede_on k m p l e f g =
-    ap (λ (x : List ℕ). with_events (record { count = p.events.count; numbers = x }) p) g
-    ∙ sym (ap (λ (z : Bool). cond z (with_events (record { count = p.events.count; numbers = put_link k.index m.events.count p.events.numbers }) p) p) f)
-    ∙ ap (preceded k m) e
-
-pub precede_off : (k : Marker) (m p : Machine) → p ≡ M.push PLACEHOLDER 0 m → eqb p.refusal 0 ≡ false → p ≡ M.precede k m
-unfolding M.precede
-precede_off k m p e f =
-    sym (ap (λ (z : Bool). cond z (with_events (record { count = p.events.count; numbers = put_link k.index m.events.count p.events.numbers }) p) p) f) ∙ ap (preceded k m) e
-
--- ---------------------------------------------------------------- tokens and names taken
-
-pub bump_in : (tokens : List ℕ) (b : Span) (m p q r : Machine) → p ≡ M.peek (tokens_of tokens) m → p.cursor < length tokens / TOKEN_ROW → q ≡ take_first (drop p.cursor (tokens_of tokens)) p → r ≡ M.push ADD_TOKEN 0 q
-    → said yes r ≡ perform (tokens_of tokens) b bump m
-unfolding perform M.bump M.bump_first take_first
-bump_in tokens b m p q r e h f g =
-    let d = tokens_cons tokens p.cursor h in
-    ap (λ (x : Machine). said yes x) (g ∙ ap (λ (x : Machine). M.push ADD_TOKEN 0 x) (f ∙ ap (λ (l : List Token). take_first l p) d) ∙ sym (ap (λ (l : List Token). M.bump_first l p) d))
-    ∙ ap (λ (x : Machine). said yes (M.bump_first (drop x.cursor (tokens_of tokens)) x)) e
-
-pub bump_past : (tokens : List ℕ) (b : Span) (m p : Machine) → p ≡ M.peek (tokens_of tokens) m → length tokens / TOKEN_ROW ≤ p.cursor → said yes p ≡ perform (tokens_of tokens) b bump m
-unfolding perform M.bump M.bump_first
-bump_past tokens b m p e h =
-    ap (λ (x : Machine). said yes x) (sym (ap (λ (l : List Token). M.bump_first l p) (tokens_end tokens p.cursor h)))
-    ∙ ap (λ (x : Machine). said yes (M.bump_first (drop x.cursor (tokens_of tokens)) x)) e
-
-pub name_in : (tokens ks : List ℕ) (b : Span) (m p q r x : Machine) (n : ℕ) → p ≡ M.peek (tokens_of tokens) m → p.cursor < length tokens / TOKEN_ROW → q ≡ take_first (drop p.cursor (tokens_of tokens)) p
-    → r ≡ M.name_stretch ks (drop q.cursor (tokens_of tokens)) q → n ≡ low (r.cursor - p.cursor) → x ≡ M.push ADD_COMBINED_TOKEN n r → said yes x ≡ perform (tokens_of tokens) b (bump_name ks) m
-unfolding perform M.bump_name M.name_first take_first
-name_in tokens ks b m p q r x n e h f g i j =
-    let d = tokens_cons tokens p.cursor h in
-    let t = token_at tokens p.cursor in
-    let z : r ≡ M.name_stretch ks (drop (p.cursor + 1) (tokens_of tokens)) (took t p) =
-    g ∙ ap (λ (y : Machine). M.name_stretch ks (drop y.cursor (tokens_of tokens)) y) (f ∙ ap (λ (l : List Token). take_first l p) d) in
-    ap (λ (y : Machine). said yes y)
-    (j ∙ ap (λ (v : ℕ). M.push ADD_COMBINED_TOKEN v r) i ∙ ap (λ (y : Machine). M.push ADD_COMBINED_TOKEN (low (y.cursor - p.cursor)) y) z ∙ sym (ap (λ (l : List Token). M.name_first ks l p) d))
-    ∙ ap (λ (y : Machine). said yes (M.name_first ks (drop y.cursor (tokens_of tokens)) y)) e
-
-pub name_past : (tokens ks : List ℕ) (b : Span) (m p : Machine) → p ≡ M.peek (tokens_of tokens) m → length tokens / TOKEN_ROW ≤ p.cursor → said yes p ≡ perform (tokens_of tokens) b (bump_name ks) m
-unfolding perform M.bump_name M.name_first
-name_past tokens ks b m p e h =
-    ap (λ (x : Machine). said yes x) (sym (ap (λ (l : List Token). M.name_first ks l p) (tokens_end tokens p.cursor h)))
-    ∙ ap (λ (y : Machine). said yes (M.name_first ks (drop y.cursor (tokens_of tokens)) y)) e
+  name_past : (ks : List ℕ) → length tokens / TOKEN_ROW ≤ p.cursor → said yes p ≡ perform ts b (bump_name ks) m
+  unfolding perform M.bump_name M.name_first
+  name_past ks h =
+      ap (λ (x : Machine). said yes x) (sym (ap (λ (l : List Token). M.name_first ks l p) (tokens_end tokens p.cursor h)))
+      ∙ ap (λ (y : Machine). said yes (M.name_first ks (drop y.cursor ts) y)) e
 
 -- one more row of a name, or none
-pub name_more : (tokens ks : List ℕ) (m q : Machine) → m.cursor < length tokens / TOKEN_ROW → first_in ks (drop m.cursor (tokens_of tokens)) ≡ true → q ≡ take_first (drop m.cursor (tokens_of tokens)) m
+name_more : (tokens ks : List ℕ) (m q : Machine) → m.cursor < length tokens / TOKEN_ROW → first_in ks (drop m.cursor (tokens_of tokens)) ≡ true → q ≡ take_first (drop m.cursor (tokens_of tokens)) m
     → M.name_stretch ks (drop q.cursor (tokens_of tokens)) q ≡ M.name_stretch ks (drop m.cursor (tokens_of tokens)) m
 unfolding M.name_stretch take_first first_in
 name_more tokens ks m q h f g =
@@ -246,3 +183,46 @@ pub name_done : (ks : List ℕ) (l : List Token) (m : Machine) → first_in ks l
 unfolding M.name_stretch first_in
 name_done ks [] m f = refl
 name_done ks (t ∷ ts) m f = sym (ap (λ (z : Bool). cond z (M.name_stretch ks ts (took t m)) m) f)
+
+-- q: after the peek
+module _ (p q : Parser) (e : Becomes (M.peek (toks p)) p q) where
+  seated : view q ≡ M.peek (toks q) (view p)
+  seated = e.is ∙ ap (λ (l : List Token). M.peek l (view p)) (sym (same_toks e.same))
+
+  of_p : (a : Act) (b : Span) (w : Walked) → w ≡ perform (toks q) b a (view p) → w ≡ perform (toks p) b a (view p)
+  of_p a b w f = f ∙ ap (λ (l : List Token). perform l b a (view p)) (same_toks e.same)
+
+  -- r: after the token, s: after its event
+  pub walks_bump : (r s : Parser) → 0 < tokens_left q → Becomes (take_first (rest q)) q r → Becomes (M.push ADD_TOKEN 0) r s → Walks (act bump) p yes s
+  walks_bump r s h f g =
+      acts (λ b. of_p bump b _ (bump_in q.tokens.now b (view p) (view q) seated (view r) (view s) (some_left q h) f.is g.is))
+      (same_then (same_then e.same f.same) g.same) (omega (arith, e.left, f.left, g.left))
+
+  pub walks_bump_past : tokens_left q ≡ 0 → Walks (act bump) p yes q
+  walks_bump_past h = acts (λ b. of_p bump b _ (bump_past q.tokens.now b (view p) (view q) seated (none_left q h))) e.same e.left
+
+  -- s: after the stretch of n raw tokens, u: after its event
+  pub walks_name : (ks : List ℕ) (n : ℕ) (r s u : Parser) → 0 < tokens_left q → Becomes (take_first (rest q)) q r → Becomes (M.name_stretch ks (rest r)) r s → n ≡ low (s.cursor.0 - q.cursor.0)
+      → Becomes (M.push ADD_COMBINED_TOKEN n) s u → Walks (act (bump_name ks)) p yes u
+  walks_name ks n r s u h f g i j =
+      let k : view s ≡ M.name_stretch ks (drop r.cursor.0 (toks q)) (view r) = g.is ∙ ap (λ (l : List Token). M.name_stretch ks (drop r.cursor.0 l) (view r)) (same_toks f.same) in
+      acts (λ b. of_p (bump_name ks) b _ (name_in q.tokens.now b (view p) (view q) seated ks (view r) (view s) (view u) n (some_left q h) f.is k i j.is))
+      (same_then (same_then (same_then e.same f.same) g.same) j.same) (omega (arith, e.left, f.left, g.left, j.left))
+
+  pub walks_name_past : (ks : List ℕ) → tokens_left q ≡ 0 → Walks (act (bump_name ks)) p yes q
+  walks_name_past ks h = acts (λ b. of_p (bump_name ks) b _ (name_past q.tokens.now b (view p) (view q) seated ks (none_left q h))) e.same e.left
+
+-- so far in a name's stretch: the rest of it from q is the rest of it from p
+pub record Stretch (ks : List ℕ) (p q : Parser) : Type 0 where
+  pub is : M.name_stretch ks (rest q) (view q) ≡ M.name_stretch ks (rest p) (view p)
+  pub same : Same p q
+  pub left : tokens_left q ≤ tokens_left p
+
+-- r: one token on
+pub stretch_more : (ks : List ℕ) (p q r : Parser) → Stretch ks p q → q.cursor.0 < length q.tokens.now / TOKEN_ROW → first_in ks (rest q) ≡ true → Becomes (take_first (rest q)) q r → Stretch ks p r
+stretch_more ks p q r s h f g =
+    record {
+      is = ap (λ (l : List Token). M.name_stretch ks (drop r.cursor.0 l) (view r)) (same_toks g.same) ∙ name_more q.tokens.now ks (view q) (view r) h f g.is ∙ s.is;
+      same = same_then s.same g.same;
+      left = omega (arith, s.left, g.left);
+    }

@@ -1,139 +1,102 @@
 -- What a report comes to on the literal machine, in plain variables: its range, its row and its pool.
-use Prim.Native.Nat.{ℕ, ◌+◌, ◌-◌, ◌/◌, ◌≤◌, ◌<◌}
-use mathlib.Core.Path.{◌≡◌, refl, sym, ◌∙◌, ap}
-use mathlib.Core.Bool.{Bool, true, false, cond, ◌&&◌}
-use mathlib.Core.List.{List, [], ◌∷◌}
-use lib.Dec.{eqb}
-use lib.ListN.{length, set, take, drop}
-use lib.Seq.{sets, length-take-le}
+use Rattle.std.proofs.Common.{ℕ, ◌+◌, ◌-◌, ◌/◌, ◌<◌, ◌≤◌, ◌≡◌, refl, sym, ◌∙◌, ap, List, [], ◌∷◌, length, drop}
+use Rattle.std.specs.Prelude.{Bool, true, false, cond, ◌&&◌, eqb}
+use Rattle.std.proofs.lemmas.List.Edits.{sets}
+use denote.Enum.Bare.{sameb}
+use Rattle.definitions.specs.Errors.{msg_expected}
 use Rattle.definitions.specs.Layout.{TOKEN_ROW, REPORT_ROW, ERROR, NO_REPORT_ROOM}
 use Rattle.definitions.specs.Token.{Token, tokens_of}
 use Rattle.definitions.specs.Skeleton.{Span}
 use Rattle.definitions.specs.Run.{only_separators, pool_of}
 use Rattle.basics.specs.Word.{low}
-use Rattle.machine.specs.Machine.{Machine, with_reports, range_at, error_range, report_row, pool_count, write_report, fits}
-use Rattle.machine.specs.Machine as M
-use Rattle.parser.specs.View.{stored}
+use Rattle.basics.proofs.Tests.{and_both}
 use Rattle.basics.proofs.TokenRows.{token_at, tokens_cons, tokens_end}
-use Rattle.parser.proofs.Lists.{and_store}
-use Rattle.parser.proofs.Moves.{on_true, on_false}
+use Rattle.machine.specs.Machine.{Pending, Machine, with_reports, range_at, error_range, report_row, pool_count, how_many, write_report, fits}
+use Rattle.machine.specs.Machine as M
+use Rattle.layout.specs.Rows.{put_row}
+use Rattle.layout.specs.Numbers.{message_number}
+use Rattle.layout.specs.declared.message.Message.{Message}
+use Rattle.layout.specs.declared.message.Message.TheVariants as MessageV
+use Rattle.layout.specs.contracts.message.Message.{the_type}
+
+-- the message of the expectations, by its number
+is_expected : (m : Message) → sameb the_type m MessageV.Expected ≡ eqb (message_number m) msg_expected
+is_expected MessageV.Expected = refl
+is_expected MessageV.UnmatchedRcurly = refl
+is_expected MessageV.UnmatchedSemicolon = refl
+is_expected MessageV.UnmatchedEndif = refl
+is_expected MessageV.StrayContinuation = refl
+is_expected MessageV.AtSignInLabel = refl
+is_expected MessageV.UnclosedNode = refl
+is_expected MessageV.NotALabel = refl
+
+pub pool_is : (m : Message) (ks : List ℕ) → pool_of (message_number m) ks ≡ cond (sameb the_type m MessageV.Expected) ks []
+unfolding pool_of
+pool_is m ks = ap (λ (b : Bool). cond b ks []) (sym (is_expected m))
+
+pub count_is : (m : Message) (x : Pending) → pool_count (message_number m) x ≡ cond (sameb the_type m MessageV.Expected) (how_many x) 0
+unfolding pool_count
+count_is m x = ap (λ (b : Bool). cond b (how_many x) 0) (sym (is_expected m))
 
 -- ---------------------------------------------------------------- the range
 
-pub range_lone : (tokens : List ℕ) (m : Machine) (y : Bool) (e : ℕ) → m.cursor < length tokens / TOKEN_ROW → y ≡ only_separators m.pending.codes → y ≡ true → e ≡ low (m.mark_byte + 1)
-    → record { from = m.mark_byte; to = e } ≡ error_range (drop m.cursor (tokens_of tokens)) m
+pub range_lone : (tokens : List ℕ) (m : Machine) → m.cursor < length tokens / TOKEN_ROW → only_separators m.pending.codes ≡ true
+    → record { from = m.mark_byte; to = low (m.mark_byte + 1) } ≡ error_range (drop m.cursor (tokens_of tokens)) m
 unfolding error_range
-range_lone tokens m y e h f g i =
+range_lone tokens m h e =
+    let r = range_at (token_at tokens m.cursor ∷ drop (m.cursor + 1) (tokens_of tokens)) m in
+    sym (ap (λ (b : Bool). cond b (record { from = m.mark_byte; to = low (m.mark_byte + 1) }) r) e) ∙ sym (ap (λ (l : List Token). error_range l m) (tokens_cons tokens m.cursor h))
+
+pub range_token : (tokens : List ℕ) (m : Machine) → m.cursor < length tokens / TOKEN_ROW → only_separators m.pending.codes ≡ false
+    → range_at (drop m.cursor (tokens_of tokens)) m ≡ error_range (drop m.cursor (tokens_of tokens)) m
+unfolding error_range
+range_token tokens m h e =
     let d = tokens_cons tokens m.cursor h in
-    let t = token_at tokens m.cursor in
-    let z : Span = record { from = m.mark_byte; to = low (m.mark_byte + 1) } in
-    ap (λ (x : ℕ). record { from = m.mark_byte; to = x }) i
-    ∙ sym (on_true y (only_separators m.pending.codes) z (range_at (t ∷ drop (m.cursor + 1) (tokens_of tokens)) m) f g)
-    ∙ sym (ap (λ (l : List Token). error_range l m) d)
+    let r = range_at (token_at tokens m.cursor ∷ drop (m.cursor + 1) (tokens_of tokens)) m in
+    ap (λ (l : List Token). range_at l m) d
+    ∙ sym (ap (λ (b : Bool). cond b (record { from = m.mark_byte; to = low (m.mark_byte + 1) }) r) e) ∙ sym (ap (λ (l : List Token). error_range l m) d)
 
-pub range_token : (tokens : List ℕ) (m : Machine) (y : Bool) (r : Span) → m.cursor < length tokens / TOKEN_ROW → y ≡ only_separators m.pending.codes → y ≡ false → r ≡ range_at (drop m.cursor (tokens_of tokens)) m
-    → r ≡ error_range (drop m.cursor (tokens_of tokens)) m
+pub range_end : (tokens : List ℕ) (m : Machine) → length tokens / TOKEN_ROW ≤ m.cursor → record { from = m.byte - 1; to = m.byte } ≡ error_range (drop m.cursor (tokens_of tokens)) m
 unfolding error_range
-range_token tokens m y r h f g i =
-    let d = tokens_cons tokens m.cursor h in
-    let t = token_at tokens m.cursor in
-    let z : Span = record { from = m.mark_byte; to = low (m.mark_byte + 1) } in
-    i ∙ ap (λ (l : List Token). range_at l m) d
-    ∙ sym (on_false y (only_separators m.pending.codes) z (range_at (t ∷ drop (m.cursor + 1) (tokens_of tokens)) m) f g)
-    ∙ sym (ap (λ (l : List Token). error_range l m) d)
+range_end tokens m h = sym (ap (λ (l : List Token). error_range l m) (tokens_end tokens m.cursor h))
 
-pub range_end : (tokens : List ℕ) (m : Machine) (s : ℕ) → length tokens / TOKEN_ROW ≤ m.cursor → s ≡ m.byte - 1 → record { from = s; to = m.byte } ≡ error_range (drop m.cursor (tokens_of tokens)) m
-unfolding error_range
-range_end tokens m s h e = ap (λ (x : ℕ). record { from = x; to = m.byte }) e ∙ sym (ap (λ (l : List Token). error_range l m) (tokens_end tokens m.cursor h))
+-- ---------------------------------------------------------------- the row and its codes
 
--- ---------------------------------------------------------------- the row
+-- what `write_report` does where nothing was refused and both fit. rows, pool: the numbers after it; ks: the codes
+abbrev reported : List ℕ → List ℕ → Machine → List ℕ → Machine
+reported rows pool m ks = with_reports (record { count = m.reports.count + REPORT_ROW; numbers = rows }) (record { count = m.pool.count + length ks; numbers = pool }) m
 
-pub sets9 : (l : List ℕ) (i a b d e f g h j k : ℕ)
-    → set (set (set (set (set (set (set (set (set l i a) (i + 1) b) (i + 2) d) (i + 3) e) (i + 4) f) (i + 5) g) (i + 6) h) (i + 7) j) (i + 8) k
-    ≡ sets l i (a ∷ b ∷ d ∷ e ∷ f ∷ g ∷ h ∷ j ∷ k ∷ [])
-sets9 l i a b d e f g h j k =
-    and_store (a ∷ b ∷ d ∷ e ∷ f ∷ g ∷ h ∷ j ∷ []) l i k _
-    (and_store (a ∷ b ∷ d ∷ e ∷ f ∷ g ∷ h ∷ []) l i j _
-    (and_store (a ∷ b ∷ d ∷ e ∷ f ∷ g ∷ []) l i h _
-    (and_store (a ∷ b ∷ d ∷ e ∷ f ∷ []) l i g _
-    (and_store (a ∷ b ∷ d ∷ e ∷ []) l i f _
-    (and_store (a ∷ b ∷ d ∷ []) l i e _
-    (and_store (a ∷ b ∷ []) l i d _
-    (and_store (a ∷ []) l i b _ refl)))))))
+module _ (message hint : ℕ) (range lab : Span) (m : Machine) where
+  abbrev row : List ℕ
+  row = report_row message hint range lab m.mark m.pool.count (pool_count message m.pending)
 
-pub stored_row : (l r x : List ℕ) (at : ℕ) (y : Bool) → y ≡ fits (length l) at REPORT_ROW → y ≡ true → x ≡ sets l at r → x ≡ stored at r l
-stored_row l r x at y e f g = g ∙ sym (on_true y (fits (length l) at REPORT_ROW) (sets l at r) l e f)
+  abbrev written : Bool → Bool → List ℕ → Machine
+  written a b ks = cond a (cond b (reported (sets m.reports.numbers m.reports.count row) (sets m.pool.numbers m.pool.count ks) m ks) (M.refuse NO_REPORT_ROOM m)) m
 
-pub not_stored : (l r : List ℕ) (at : ℕ) (y : Bool) → y ≡ fits (length l) at REPORT_ROW → y ≡ false → l ≡ stored at r l
-not_stored l r at y e f = sym (on_false y (fits (length l) at REPORT_ROW) (sets l at r) l e f)
+  abbrev room : List ℕ → Bool
+  room ks = fits (length m.reports.numbers) m.reports.count REPORT_ROW && fits (length m.pool.numbers) m.pool.count (length ks)
 
--- ---------------------------------------------------------------- the report
+  by : (ks : List ℕ) (a b : Bool) → ks ≡ pool_of message m.pending.codes → eqb m.refusal 0 ≡ a → room ks ≡ b → written a b ks ≡ write_report message hint range lab m
+  unfolding write_report
+  by ks a b k e f =
+      ap (λ (x : Bool). written x b ks) (sym e) ∙ ap (λ (x : Bool). written (eqb m.refusal 0) x ks) (sym f)
+      ∙ ap (λ (l : List ℕ). written (eqb m.refusal 0) (room l) l) k
 
--- what `write_report` does where nothing was refused. v: whether the row fits, ks: the pool's codes
-abbrev written_if : Bool → ℕ → ℕ → Span → Span → Machine → List ℕ → Machine
-written_if v message hint range lab m ks =
-    cond (v && fits (length m.pool.numbers) m.pool.count (length ks))
-    (with_reports
-    (record { count = m.reports.count + REPORT_ROW; numbers = sets m.reports.numbers m.reports.count (report_row message hint range lab m.mark m.pool.count (pool_count message m.pending)) })
-    (record { count = m.pool.count + length ks; numbers = sets m.pool.numbers m.pool.count ks })
-    m)
-    (M.refuse NO_REPORT_ROOM m)
+  pub report_off : eqb m.refusal 0 ≡ false → m ≡ write_report message hint range lab m
+  report_off e = by (pool_of message m.pending.codes) false _ refl e refl
 
-abbrev written : ℕ → ℕ → Span → Span → Machine → List ℕ → Machine
-written message hint range lab m ks = written_if (fits (length m.reports.numbers) m.reports.count REPORT_ROW) message hint range lab m ks
+  pub report_fits : (ks l rows pool : List ℕ) → ks ≡ pool_of message m.pending.codes → eqb m.refusal 0 ≡ true → fits (length m.reports.numbers) m.reports.count REPORT_ROW ≡ true
+      → fits (length m.pool.numbers) m.pool.count (length ks) ≡ true → l ≡ row → rows ≡ put_row REPORT_ROW m.reports.count l m.reports.numbers → pool ≡ sets m.pool.numbers m.pool.count ks
+      → reported rows pool m ks ≡ write_report message hint range lab m
+  unfolding put_row
+  report_fits ks l rows pool k e f g r s t =
+      ap (λ (x : List ℕ). reported x pool m ks)
+      (s ∙ ap (λ (b : Bool). cond b (sets m.reports.numbers m.reports.count l) m.reports.numbers) f ∙ ap (sets m.reports.numbers m.reports.count) r)
+      ∙ ap (λ (x : List ℕ). reported (sets m.reports.numbers m.reports.count row) x m ks) t
+      ∙ by ks true true k e (and_both f g)
 
-report_on : (message hint : ℕ) (range lab : Span) (m : Machine) (ks : List ℕ) → m.refusal ≡ 0 → ks ≡ pool_of message m.pending.codes → written message hint range lab m ks ≡ write_report message hint range lab m
-unfolding write_report
-report_on message hint range lab m ks e f =
-    ap (written message hint range lab m) f ∙ sym (ap (λ (n : ℕ). cond (eqb n 0) (written message hint range lab m (pool_of message m.pending.codes)) m) e)
-
-pub report_off : (message hint : ℕ) (range lab : Span) (m : Machine) → eqb m.refusal 0 ≡ false → m ≡ write_report message hint range lab m
-unfolding write_report
-report_off message hint range lab m e = sym (ap (λ (b : Bool). cond b (written message hint range lab m (pool_of message m.pending.codes)) m) e)
-
-module _ (message hint : ℕ) (range lab : Span) (m : Machine) (codes : List ℕ) (n : ℕ) (y z : Bool)
-    (quiet : m.refusal ≡ 0) (has : take n codes ≡ pool_of message m.pending.codes) (few : n ≤ length codes)
-    (rows : y ≡ fits (length m.reports.numbers) m.reports.count REPORT_ROW) (pools : z ≡ fits (length m.pool.numbers) m.pool.count n) where
-  size : length (take n codes) ≡ n
-  size = length-take-le n codes few
-
-  -- the pool's test, of the list itself
-  pools_of : z ≡ fits (length m.pool.numbers) m.pool.count (length (take n codes))
-  pools_of = pools ∙ ap (fits (length m.pool.numbers) m.pool.count) (sym size)
-
-  abbrev both : Machine
-  both =
-      with_reports
-      (record { count = m.reports.count + REPORT_ROW; numbers = sets m.reports.numbers m.reports.count (report_row message hint range lab m.mark m.pool.count (pool_count message m.pending)) })
-      (record { count = m.pool.count + length (take n codes); numbers = sets m.pool.numbers m.pool.count (take n codes) })
-      m
-
-  tested : (b c : Bool) → y ≡ b → z ≡ c → written message hint range lab m (take n codes) ≡ cond (b && c) both (M.refuse NO_REPORT_ROOM m)
-  tested b c e f = ap (λ (v : Bool). written_if v message hint range lab m (take n codes)) (sym rows ∙ e) ∙ ap (λ (v : Bool). cond (b && v) both (M.refuse NO_REPORT_ROOM m)) (sym pools_of ∙ f)
-
-  pub report_fits : (reports pool : List ℕ) (mark first count : ℕ) → y ≡ true → z ≡ true → mark ≡ low m.mark → first ≡ low m.pool.count → count ≡ low (pool_count message m.pending)
-      → reports ≡ stored m.reports.count (message ∷ range.from ∷ range.to ∷ mark ∷ first ∷ count ∷ hint ∷ lab.from ∷ lab.to ∷ []) m.reports.numbers
-      → pool ≡ sets m.pool.numbers m.pool.count (take n codes)
-      → with_reports (record { count = m.reports.count + REPORT_ROW; numbers = reports }) (record { count = m.pool.count + n; numbers = pool }) m ≡ write_report message hint range lab m
-  report_fits reports pool mark first count e f p q r s t =
-      let at = m.reports.count in
-      let l = m.reports.numbers in
-      let w : ℕ → ℕ → ℕ → List ℕ = λ a b d. message ∷ range.from ∷ range.to ∷ a ∷ b ∷ d ∷ hint ∷ lab.from ∷ lab.to ∷ [] in
-      let u : reports ≡ sets l at (report_row message hint range lab m.mark m.pool.count (pool_count message m.pending)) =
-      s ∙ on_true y (fits (length l) at REPORT_ROW) (sets l at (w mark first count)) l rows e
-      ∙ ap (λ (a : ℕ). sets l at (w a first count)) p ∙ ap (λ (b : ℕ). sets l at (w (low m.mark) b count)) q ∙ ap (λ (d : ℕ). sets l at (w (low m.mark) (low m.pool.count) d)) r in
-      ap (λ (x : List ℕ). with_reports (record { count = at + REPORT_ROW; numbers = x }) (record { count = m.pool.count + n; numbers = pool }) m) u
-      ∙ ap (λ (x : List ℕ). with_reports (record { count = at + REPORT_ROW; numbers = sets l at (report_row message hint range lab m.mark m.pool.count (pool_count message m.pending)) }) (record { count = m.pool.count + n; numbers = x }) m) t
-      ∙ ap (λ (k : ℕ). with_reports (record { count = at + REPORT_ROW; numbers = sets l at (report_row message hint range lab m.mark m.pool.count (pool_count message m.pending)) }) (record { count = m.pool.count + k; numbers = sets m.pool.numbers m.pool.count (take n codes) }) m) (sym size)
-      ∙ sym (tested true true e f) ∙ report_on message hint range lab m (take n codes) quiet has
-
-  pub report_no_pool : (r : Machine) → y ≡ true → z ≡ false → r ≡ M.refuse NO_REPORT_ROOM m → r ≡ write_report message hint range lab m
-  report_no_pool r e f g = g ∙ sym (tested true false e f) ∙ report_on message hint range lab m (take n codes) quiet has
-
-pub report_no_row : (message hint : ℕ) (range lab : Span) (m r : Machine) (y : Bool) → m.refusal ≡ 0 → y ≡ fits (length m.reports.numbers) m.reports.count REPORT_ROW → y ≡ false → r ≡ M.refuse NO_REPORT_ROOM m
-    → r ≡ write_report message hint range lab m
-report_no_row message hint range lab m r y q e f g =
-    g ∙ sym (ap (λ (v : Bool). written_if v message hint range lab m (pool_of message m.pending.codes)) (sym e ∙ f)) ∙ report_on message hint range lab m (pool_of message m.pending.codes) q refl
+  pub report_full : (ks : List ℕ) (x : Machine) → ks ≡ pool_of message m.pending.codes → eqb m.refusal 0 ≡ true → room ks ≡ false → x ≡ M.refuse NO_REPORT_ROOM m → x ≡ write_report message hint range lab m
+  report_full ks x k e f g = g ∙ by ks true false k e f
 
 -- the event, and then the row
 pub emit_is : (ts : List Token) (message hint : ℕ) (range lab : Span) (m p q r : Machine) → p ≡ M.peek ts m → range ≡ error_range (drop p.cursor ts) p → q ≡ M.push ERROR 0 p

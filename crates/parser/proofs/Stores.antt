@@ -1,53 +1,77 @@
--- Stores as the code makes them, pending codes, a range, and what is left past every row.
-use Prim.Native.Nat.{ℕ, suc, ◌+◌, ◌-◌, ◌≤◌, ◌<◌}
-use mathlib.Core.Path.{◌≡◌, sym, ◌∙◌, ap}
-use mathlib.Core.Bool.{true, false}
-use mathlib.Core.List.{List, [], ◌∷◌, ◌++◌}
-use native.Mathlib.Omega.{arith}
-use lib.Dec.{ltb}
-use lib.ListN.{length, set, take}
-use lib.Seq.{take-suc-set, sets, length-take-le, take_all}
-use borrow.Author.Tests.{lt-ltb, le-ltb}
-use Rattle.definitions.specs.Layout.{MOST_PENDING, TWO_TO_64}
-use Rattle.definitions.specs.Token.{Token}
-use Rattle.basics.specs.Word.{low}
-use Rattle.machine.specs.Machine.{PAST_THE_END, Machine, range_at, refuse}
-use Rattle.parser.specs.View.{tokens_left}
-use Rattle.parser.specs.declared.State.{State}
+-- Whether a parser has refused, and stores as the code makes them.
+use Rattle.std.proofs.Common.{ℕ, ◌+◌, ◌≡◌, refl, sym, ◌∙◌, ap, Bool, true, false, List, [], ◌∷◌, length}
+use Rattle.std.specs.Prelude.{Option, Some, None, not, eqb, cond}
+use Rattle.std.specs.Option.{is_some}
+use Rattle.std.proofs.lemmas.List.Edits.{sets}
+use Rattle.definitions.specs.Layout.{EVENT_ROW, NO_EVENT_ROOM}
+use Rattle.layout.specs.Rows.{put_row}
+use Rattle.layout.specs.Numbers.{refusal_number}
+use Rattle.layout.specs.declared.refusal.Refusal.{Refusal}
+use Rattle.layout.specs.declared.refusal.Refusal.TheVariants as RefusalV
+use Rattle.machine.specs.Machine.{Machine}
+use Rattle.machine.specs.Machine as M
+use Rattle.parser.specs.View.{refusal_of}
+use Rattle.parser.specs.declared.Refused.{Refused}
 
-pub range_rows : (l : List Token) (m : Machine) (a e : ℕ) → m.byte ≡ a → e ≡ (range_at l m).to → record { from = a; to = e } ≡ range_at l m
-unfolding range_at
-range_rows [] m a e f g = ap (λ (x : ℕ). record { from = x; to = e }) (sym f) ∙ ap (λ (x : ℕ). record { from = m.byte; to = x }) g
-range_rows (t ∷ l) m a e f g = ap (λ (x : ℕ). record { from = x; to = e }) (sym f) ∙ ap (λ (x : ℕ). record { from = m.byte; to = x }) g
+-- a refusal's number is not 0
+pub refusal_some : (r : Refused) → eqb (refusal_of (Some r)) 0 ≡ false
+refusal_some r = by_cause r.cause
+  where
+    by_cause : (x : Refusal) → eqb (refusal_number x) 0 ≡ false
+    by_cause RefusalV.UnknownEntry = refl
+    by_cause RefusalV.TooLong = refl
+    by_cause RefusalV.OddCount = refl
+    by_cause RefusalV.BadText = refl
+    by_cause RefusalV.TooDeep = refl
+    by_cause RefusalV.NoEventRoom = refl
+    by_cause RefusalV.NoReportRoom = refl
+    by_cause RefusalV.NoTreeRoom = refl
+    by_cause RefusalV.HighByte = refl
+    by_cause RefusalV.Directive = refl
+    by_cause RefusalV.BadKind = refl
+    by_cause RefusalV.ZeroLength = refl
+    by_cause RefusalV.BadEnd = refl
 
--- ---------------------------------------------------------------- stores, as the code makes them
+-- what `refused.is_none()` says, in the machine's number
+pub quiet : (o : Option Refused) (b : Bool) → is_some o ≡ not b → eqb (refusal_of o) 0 ≡ b
+quiet None true e = refl
+quiet None false e = sym e
+quiet (Some r) true e = refusal_some r ∙ sym e
+quiet (Some r) false e = refusal_some r
 
-pub sets2 : (l : List ℕ) (i a b : ℕ) → set (set l i a) (i + 1) b ≡ sets l i (a ∷ b ∷ [])
-sets2 l i a b = let e : i + 1 ≡ suc i = omega arith in ap (λ (j : ℕ). set (set l i a) j b) e
+-- a step that is taken only where nothing was refused
+pub push_open : (t a : ℕ) (m x : Machine) → eqb m.refusal 0 ≡ true → x ≡ M.push_row t a m → x ≡ M.push t a m
+unfolding M.push
+push_open t a m x e f = f ∙ sym (ap (λ (b : Bool). cond b (M.push_row t a m) m) e)
 
-pub sets3 : (l : List ℕ) (i a b d : ℕ) → set (set (set l i a) (i + 1) b) (i + 2) d ≡ sets l i (a ∷ b ∷ d ∷ [])
-sets3 l i a b d = let e : i + 2 ≡ suc (suc i) = omega arith in ap (λ (x : List ℕ). set x (i + 2) d) (sets2 l i a b) ∙ ap (λ (j : ℕ). set (sets l i (a ∷ b ∷ [])) j d) e
+pub push_refused : (t a : ℕ) (m : Machine) → eqb m.refusal 0 ≡ false → m ≡ M.push t a m
+unfolding M.push
+push_refused t a m e = sym (ap (λ (b : Bool). cond b (M.push_row t a m) m) e)
 
--- one more pending code
-pub pending_more : (codes : List ℕ) (n k : ℕ) → n < length codes → take (n + 1) (set codes n k) ≡ take n codes ++ (k ∷ [])
-pending_more codes n k h = let e : n + 1 ≡ suc n = omega arith in ap (λ (j : ℕ). take j (set codes n k)) e ∙ take-suc-set codes n k h
+-- the first refusal stays
+pub refuse_first : (n : ℕ) (m : Machine) → eqb m.refusal 0 ≡ true → M.with_cursor M.PAST_THE_END m.byte (M.with_refusal n m.mark m) ≡ M.refuse n m
+unfolding M.refuse
+refuse_first n m e = sym (ap (λ (b : Bool). M.with_cursor M.PAST_THE_END m.byte (cond b (M.with_refusal n m.mark m) m)) e)
 
--- how many are pending, where there is room for as many codes as may be pending
-pub pending_few : (codes : List ℕ) (n : ℕ) → length codes ≡ MOST_PENDING → n < MOST_PENDING → ltb (length (take n codes)) MOST_PENDING ≡ true
-pending_few codes n e h = ap (λ (j : ℕ). ltb j MOST_PENDING) (length-take-le n codes (omega (arith, e, h))) ∙ lt-ltb n MOST_PENDING h
+pub refuse_again : (n : ℕ) (m : Machine) → eqb m.refusal 0 ≡ false → M.with_cursor M.PAST_THE_END m.byte m ≡ M.refuse n m
+unfolding M.refuse
+refuse_again n m e = sym (ap (λ (b : Bool). M.with_cursor M.PAST_THE_END m.byte (cond b (M.with_refusal n m.mark m) m)) e)
 
-pub pending_full : (codes : List ℕ) (n : ℕ) → length codes ≡ MOST_PENDING → MOST_PENDING ≤ n → ltb (length (take n codes)) MOST_PENDING ≡ false
-pending_full codes n e h = ap (λ (j : ℕ). ltb j MOST_PENDING) (ap length (take_all n codes (omega (arith, e, h))) ∙ e) ∙ le-ltb MOST_PENDING MOST_PENDING (omega arith)
+-- an event's row, stored where it fits
+pub row_stored : (l r : List ℕ) (i : ℕ) → M.fits (length l) i EVENT_ROW ≡ true → put_row EVENT_ROW i r l ≡ sets l i r
+unfolding put_row
+row_stored l r i e = ap (λ (b : Bool). cond b (sets l i r) l) e
 
--- a difference that stops at 0
-pub below : (a b : ℕ) → a ≤ b → low (a - b) ≡ 0
-below a b h = let e : a - b ≡ 0 = omega (arith, h) in ap low e
+pub row_pushed : (t n a : ℕ) (m : Machine) (l : List ℕ) → M.fits (length m.events.numbers) m.events.count EVENT_ROW ≡ true → n ≡ t → l ≡ put_row EVENT_ROW m.events.count (n ∷ a ∷ 0 ∷ []) m.events.numbers
+    → M.with_events (record { count = m.events.count + EVENT_ROW; numbers = l }) m ≡ M.push_row t a m
+unfolding M.push_row
+row_pushed t n a m l e g f =
+    let r : ℕ → List ℕ = λ x. x ∷ a ∷ 0 ∷ [] in
+    ap (λ (x : List ℕ). M.with_events (record { count = m.events.count + EVENT_ROW; numbers = x }) m)
+    (f ∙ row_stored m.events.numbers (r n) m.events.count e ∙ ap (λ (x : ℕ). sets m.events.numbers m.events.count (r x)) g)
+    ∙ sym (ap (λ (b : Bool). cond b (M.with_events (record { count = m.events.count + EVENT_ROW; numbers = sets m.events.numbers m.events.count (r t) }) m) (M.refuse NO_EVENT_ROOM m)) e)
 
--- past every row nothing is left
-pub left_none : (tokens : List ℕ) (s : State) → s.cursor.0 ≡ PAST_THE_END → length tokens < TWO_TO_64 → tokens_left tokens s ≡ 0
-unfolding tokens_left
-left_none tokens s e h = omega (arith, e, h)
-
-pub refused_past : (n : ℕ) (m r : Machine) → r ≡ refuse n m → r.cursor ≡ PAST_THE_END
-unfolding refuse
-refused_past n m r e = ap (λ (x : Machine). x.cursor) e
+pub row_refused : (t a : ℕ) (m x : Machine) → M.fits (length m.events.numbers) m.events.count EVENT_ROW ≡ false → x ≡ M.refuse NO_EVENT_ROOM m → x ≡ M.push_row t a m
+unfolding M.push_row
+row_refused t a m x e f =
+    f ∙ sym (ap (λ (b : Bool). cond b (M.with_events (record { count = m.events.count + EVENT_ROW; numbers = sets m.events.numbers m.events.count (t ∷ a ∷ 0 ∷ []) }) m) (M.refuse NO_EVENT_ROOM m)) e)

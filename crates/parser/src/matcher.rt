@@ -1,87 +1,82 @@
-// `TokenMatcher` of parser/mod.rs, as an enum: which kinds match, what is pushed where they do not, how they are taken.
-// The grammar's own matchers (a name that may be a macro, a unit address, a reference) stand with the grammar.
-ghost use Rattle.std.specs.Prelude.{◌≡◌, List, ℕ, ◌≤◌, ◌-◌};
+// `TokenMatcher` of parser/mod.rs: what a test looks for, what is pushed where it is not there, how it is taken. The kinds
+// and names are an enum; the grammar's own matchers (a name that may be a macro, a unit address, a reference) stand with
+// the grammar.
+ghost use Rattle.std.specs.Prelude.{◌≡◌, true, ◌<◌};
 ghost use Rattle.definitions.specs.Token.{one_of};
 ghost use Rattle.definitions.specs.Prog.{yes};
-ghost use Rattle.parser.specs.View.{pending_of, tokens_left, first_code, expect_matcher, matcher_of, kinds_of, Moves, says, Expects};
+ghost use Rattle.definitions.specs.Run.{truth};
+ghost use Rattle.definitions.specs.Check.{Matcher as MatcherProgs};
+ghost use Rattle.parser.specs.View.{matcher_of, kinds_of, Walks, tokens_left, TakesOne};
 
-use crate::State;
-use crate::pending::Pending;
-use layout::limit::Codes;
+use crate::Parser;
+use layout::expected::Expected;
 use layout::set::{LABEL_NAME_SET, NAME_SET};
-use layout::{expected, token_kind};
-use token_rows::token::one_of;
+use layout::token_kind::TokenKind;
+
+pub trait TokenMatcher: Copy {
+    // The matcher of the definitions that each is.
+    ghost matcher: { Self → MatcherProgs };
+
+    fn matches(self, p: &mut Parser) -> bool
+        ensures walks { Walks (matcher self).matches p.old (truth result) p.new }
+        ensures some { result ≡ true → 0 < tokens_left p.new };
+
+    fn push_expected(self, p: &mut Parser)
+        ensures { Walks (matcher self).push_expected p.old yes p.new };
+
+    // The matcher has matched.
+    fn consume(self, p: &mut Parser)
+        ensures walks { Walks (matcher self).consume p.old yes p.new }
+        ensures taken { TakesOne p.old p.new };
+}
 
 #[derive(Clone, Copy)]
 pub enum Matcher {
-    Kind(u8),
-    Either(u8, u8),
+    Kind(TokenKind),
+    Either(TokenKind, TokenKind),
     Name,
     LabelName,
 }
 
 impl Matcher {
     // Whether a token of kind k matches.
-    pub fn matches(self, k: u8) -> bool
+    pub fn matches_kind(self, k: u8) -> bool
         ensures { result ≡ one_of (kinds_of self) k }
     {
         match self {
-            Matcher::Kind(a) => a == k,
+            Matcher::Kind(a) => k == a.number(),
+            Matcher::Either(a, b) => k == a.number() || k == b.number(),
+            Matcher::Name => NAME_SET.contains(&k),
+            Matcher::LabelName => LABEL_NAME_SET.contains(&k),
+        }
+    }
+}
+
+impl TokenMatcher for Matcher {
+    ghost matcher = { matcher_of };
+
+    fn matches(self, p: &mut Parser) -> bool {
+        p.peek();
+        p.is_matched(self)
+    }
+
+    fn push_expected(self, p: &mut Parser) {
+        match self {
+            Matcher::Kind(a) => p.add_expected(Expected::Kind(a)),
             Matcher::Either(a, b) => {
-                let first = a == k;
-                if first { true } else { b == k }
+                p.add_expected(Expected::Kind(a));
+                p.add_expected(Expected::Kind(b));
             }
-            Matcher::Name => one_of(&NAME_SET, k),
-            Matcher::LabelName => one_of(&LABEL_NAME_SET, k),
+            Matcher::Name => p.add_expected(Expected::Kind(TokenKind::Name)),
+            Matcher::LabelName => p.add_expected(Expected::LabelName),
         }
     }
 
-    // The expectation that is pushed first.
-    fn first_code(self) -> u8
-        ensures { result ≡ first_code self }
-    {
+    fn consume(self, p: &mut Parser) {
         match self {
-            Matcher::Kind(a) => a,
-            Matcher::Either(a, _) => a,
-            Matcher::Name => token_kind::NAME,
-            Matcher::LabelName => expected::LABEL_NAME,
-        }
-    }
-
-    // Its expectations, onto what is pending.
-    fn add(self, pending: Pending, codes: &mut Codes) -> Pending
-        ensures { pending_of result codes.new ≡ expect_matcher self (pending_of pending codes.old) }
-    {
-        let code = self.first_code();
-        let x = pending.add(codes, code);
-        match self {
-            Matcher::Kind(_) => x,
-            Matcher::Either(_, b) => x.add(codes, b),
-            Matcher::Name => x,
-            Matcher::LabelName => x,
-        }
-    }
-
-    pub fn push_expected(self, s: State, codes: &mut Codes) -> State
-        ensures expects { Expects (matcher_of self).push_expected s (says yes result) codes }
-        ensures by_index { (tokens : List ℕ) → tokens_left tokens result ≤ tokens_left tokens s }
-    {
-        let pending = self.add(s.pending, codes);
-        let mut q = s;
-        q.pending = pending;
-        q
-    }
-
-    // The matcher has matched.
-    pub fn consume(self, s: State, tokens: &[u32], events: &mut [u32]) -> State
-        ensures moves { Moves (matcher_of self).consume s (says yes result) tokens events }
-        ensures result_bound { tokens_left tokens.now result ≤ tokens_left tokens.now s - 1 }
-    {
-        match self {
-            Matcher::Kind(_) => s.bump(tokens, events),
-            Matcher::Either(_, _) => s.bump(tokens, events),
-            Matcher::Name => s.bump_name(tokens, events, &NAME_SET),
-            Matcher::LabelName => s.bump_name(tokens, events, &LABEL_NAME_SET),
+            Matcher::Kind(_) | Matcher::Either(_, _) => p.bump(),
+            Matcher::Name => p.bump_name(&NAME_SET),
+            Matcher::LabelName => p.bump_name(&LABEL_NAME_SET),
         }
     }
 }

@@ -1,136 +1,104 @@
 // source.rs: the token rows and the cursor. A peek moves the cursor past trivia; an immediate one moves nothing.
-ghost use Rattle.std.specs.Prelude.{◌≡◌, true, false, List, [], ◌∷◌, ℕ, ◌-◌, ◌/◌, ◌≤◌, ◌<◌, length, drop};
-ghost use Rattle.definitions.specs.Layout.{TOKEN_ROW};
-ghost use Rattle.definitions.specs.Token.{tokens_of, first_in};
-ghost use Rattle.definitions.specs.Prog.{silent_at, at_end};
+ghost use Rattle.std.specs.Prelude.{◌≡◌, true, false, [], ◌∷◌, ◌<◌, drop};
+ghost use Rattle.layout.specs.Numbers.{kind_number};
+ghost use Rattle.definitions.specs.Token.{first_in};
+ghost use Rattle.definitions.specs.Prog.{silent_at, at_end, act};
 ghost use Rattle.definitions.specs.Grammar.{silent_at_macro_invocation_with_args};
+ghost use Rattle.definitions.specs.Run.{truth};
 ghost use Rattle.machine.specs.Machine.{peek as peek_machine, range_at};
-ghost use Rattle.parser.specs.View.{view, tokens_left, state_tested, kinds_of, take_first, span_of, Becomes, Sees, Tests};
+ghost use Rattle.parser.specs.View.{view, toks, rest, tokens_left, kinds_of, take_first, span_of, Becomes, Walks, TakesOne};
 
+use crate::Parser;
 use crate::errors::TextRange;
 use crate::matcher::Matcher;
-use crate::pending::Pending;
-use crate::{State, StateTested};
 use layout::row::TOKEN_ROW;
-use layout::{ByteOffset, TokenIndex, token_kind};
+use layout::token_kind::TokenKind;
+use layout::{ByteOffset, TokenIndex};
 use token_rows::token::{end_at, is_at, is_next_at, is_one_of_at, kind_at, skip_trivia};
 
-// Whether the matcher matches the row.
-pub fn is_matched_at(tokens: &[u32], at: usize, m: Matcher) -> bool
-    ensures value { result ≡ first_in (kinds_of m) (drop at (tokens_of tokens.now)) }
-    ensures at_in_bounds { result ≡ true → at < length tokens.now / TOKEN_ROW }
-{
-    let exists = at < tokens.len() / TOKEN_ROW;
-    if exists {
-        let here = kind_at(tokens, at);
-        m.matches(here)
-    } else {
-        false
+impl<'a> Parser<'a> {
+    // Whether there is a token at the cursor.
+    pub fn has_token(&self) -> bool
+        ensures some { result ≡ true → 0 < tokens_left self.now }
+        ensures none { result ≡ false → tokens_left self.now ≡ 0 }
+    {
+        self.cursor.0 < self.tokens.len() / TOKEN_ROW
     }
-}
 
-impl State {
     // `skip_trivia`: the cursor stops at a token, or at the end.
-    pub fn peek(self, tokens: &[u32]) -> State
-        ensures becomes { Becomes (peek_machine (tokens_of tokens.now)) self result }
-        ensures result_bound { tokens_left tokens.now result ≤ tokens_left tokens.now self }
+    pub fn peek(&mut self)
+        ensures { Becomes (peek_machine (toks self.old)) self.old self.new }
     {
-        let seat = skip_trivia(tokens, self.cursor.0, self.byte.0);
-        let cursor = TokenIndex(seat.at);
-        let start = ByteOffset(seat.byte);
-        let mut q = self;
-        q.cursor = cursor;
-        q.byte = start;
-        q
+        let seat = skip_trivia(self.tokens, self.cursor.0, self.byte.0);
+        self.cursor = TokenIndex(seat.at);
+        self.byte = ByteOffset(seat.byte);
     }
 
-    pub fn at_end(self, tokens: &[u32]) -> StateTested
-        ensures tests { Tests at_end self (state_tested result) tokens }
-        ensures s_bound { tokens_left tokens.now result.s ≤ tokens_left tokens.now self }
-        ensures s_nonzero { result.yes ≡ false → 0 < tokens_left tokens.now result.s }
-        ensures s_value { result.yes ≡ true → tokens_left tokens.now result.s ≡ 0 }
+    pub fn at_end(&mut self) -> bool
+        ensures walks { Walks (act at_end) self.old (truth result) self.new }
+        ensures some { result ≡ false → 0 < tokens_left self.new }
+        ensures none { result ≡ true → tokens_left self.new ≡ 0 }
     {
-        let q = self.peek(tokens);
-        let at = q.cursor.0;
-        let exists = at < tokens.len() / TOKEN_ROW;
-        if exists {
-            StateTested { s: q, yes: false }
-        } else {
-            StateTested { s: q, yes: true }
-        }
+        self.peek();
+        !self.has_token()
     }
 
     // `check(kind).silent().at()`
-    pub fn silent_at(self, tokens: &[u32], k: u8) -> StateTested
-        ensures tests { Tests (silent_at (k ∷ [])) self (state_tested result) tokens }
-        ensures s_bound { tokens_left tokens.now result.s ≤ tokens_left tokens.now self }
-        ensures s_nonzero { result.yes ≡ true → 0 < tokens_left tokens.now result.s }
+    pub fn silent_at(&mut self, kind: TokenKind) -> bool
+        ensures walks { Walks (act (silent_at (kind_number kind ∷ []))) self.old (truth result) self.new }
+        ensures some { result ≡ true → 0 < tokens_left self.new }
     {
-        let q = self.peek(tokens);
-        let yes = is_at(tokens, q.cursor.0, k);
-        StateTested { s: q, yes: yes }
+        self.peek();
+        is_at(self.tokens, self.cursor.0, kind.number())
     }
 
     // `check(set).silent().at()`
-    pub fn silent_at_set(self, tokens: &[u32], set: &[u8]) -> StateTested
-        ensures tests { Tests (silent_at set.now) self (state_tested result) tokens }
-        ensures s_bound { tokens_left tokens.now result.s ≤ tokens_left tokens.now self }
-        ensures s_nonzero { result.yes ≡ true → 0 < tokens_left tokens.now result.s }
+    pub fn silent_at_set(&mut self, set: &[u8]) -> bool
+        ensures walks { Walks (act (silent_at set.now)) self.old (truth result) self.new }
+        ensures some { result ≡ true → 0 < tokens_left self.new }
     {
-        let q = self.peek(tokens);
-        let yes = is_one_of_at(tokens, q.cursor.0, set);
-        StateTested { s: q, yes: yes }
+        self.peek();
+        is_one_of_at(self.tokens, self.cursor.0, set)
     }
 
-    pub fn silent_at_macro_invocation_with_args(self, tokens: &[u32]) -> StateTested
-        ensures sees { Sees silent_at_macro_invocation_with_args self (state_tested result) tokens }
-        ensures s_bound { tokens_left tokens.now result.s ≤ tokens_left tokens.now self }
-        ensures s_nonzero { result.yes ≡ true → 0 < tokens_left tokens.now result.s }
+    pub fn silent_at_macro_invocation_with_args(&mut self) -> bool
+        ensures walks { Walks silent_at_macro_invocation_with_args self.old (truth result) self.new }
+        ensures some { result ≡ true → 0 < tokens_left self.new }
     {
-        let ident = self.silent_at(tokens, token_kind::IDENT);
-        if ident.yes {
-            let q = ident.s;
-            let next = is_next_at(tokens, q.cursor.0, token_kind::LPAREN);
-            StateTested { s: q, yes: next }
-        } else {
-            let q = ident.s;
-            StateTested { s: q, yes: false }
-        }
+        self.silent_at(TokenKind::Ident)
+            && is_next_at(self.tokens, self.cursor.0, TokenKind::LParen.number())
+    }
+
+    // Whether the matcher matches the row at the cursor.
+    pub fn is_matched(&self, m: Matcher) -> bool
+        ensures value { result ≡ first_in (kinds_of m) (rest self.now) }
+        ensures some { result ≡ true → 0 < tokens_left self.now }
+    {
+        self.has_token() && m.matches_kind(kind_at(self.tokens, self.cursor.0))
     }
 
     // The range of the row at the cursor.
-    pub fn range(self, tokens: &[u32]) -> TextRange
-        ensures { (codes events reports pool : List ℕ) → span_of result
-            ≡ range_at (drop self.cursor.0 (tokens_of tokens.now)) (view self codes events reports pool) }
+    pub fn range(&self) -> TextRange
+        ensures { span_of result ≡ range_at (rest self.now) (view self.now) }
     {
-        let start = self.byte;
-        let end = ByteOffset(end_at(tokens, self.cursor.0, start.0));
         TextRange {
-            start: start,
-            end: end,
+            start: self.byte,
+            end: ByteOffset(end_at(self.tokens, self.cursor.0, self.byte.0)),
         }
     }
 
     // `next_token`, and the expectations cleared: takes the row at the cursor, whatever it is.
-    pub fn next_token(self, tokens: &[u32]) -> State
-        ensures becomes { Becomes (take_first (drop self.cursor.0 (tokens_of tokens.now))) self result }
-        ensures result_bound { tokens_left tokens.now result ≤ tokens_left tokens.now self - 1 }
+    pub fn next_token(&mut self)
+        ensures becomes { Becomes (take_first (rest self.old)) self.old self.new }
+        ensures taken { TakesOne self.old self.new }
     {
-        let at = self.cursor.0;
-        let exists = at < tokens.len() / TOKEN_ROW;
-        if exists {
-            let next = TokenIndex(at + 1);
-            let end = ByteOffset(end_at(tokens, at, self.byte.0));
-            let none = Pending::none();
-            let mut q = self;
-            q.cursor = next;
-            q.byte = end;
-            q.mark = next;
-            q.mark_byte = end;
-            q.pending = none;
-            q
-        } else {
-            self
+        if self.has_token() {
+            let at = self.cursor.0;
+            self.byte = ByteOffset(end_at(self.tokens, at, self.byte.0));
+            self.cursor = TokenIndex(at + 1);
+            self.mark = self.cursor;
+            self.mark_byte = self.byte;
+            self.pending.clear();
         }
     }
 }

@@ -1,30 +1,29 @@
-// The cells that no call is opened for, of grammar.rs: numbers, characters, macro invocations and references. The
-// function here is for the cycle of calls, which holds the whole parser by value; the work is done in the module.
+// The first cases of `eat_cell` of grammar.rs: the cells that no call is opened for: a literal, a macro or a reference.
 #![tactic(auto)]
 
-pub mod plain_cell;
-
-ghost use Rattle.std.specs.Prelude.{◌≡◌, true, ◌≤◌, ◌<◌};
-ghost use Rattle.definitions.specs.Prog.{yes};
-ghost use Rattle.parser.specs.View.{parser_tested, tokens_left, ParserWalks};
+ghost use Rattle.std.specs.Prelude.{◌≡◌, true, ◌<◌};
+ghost use Rattle.definitions.specs.Run.{truth};
+ghost use Rattle.parser.specs.View.{tokens_left, Walks};
 ghost use Rattle.plain_cells.specs.Subprograms.{plain_cell};
 
-use parser::{Parser, ParserTested};
+use layout::expected::Expected;
+use layout::token_kind::TokenKind;
+use macros::macro_invocation;
+use names::reference::Reference;
+use parser::Parser;
+use parser::matcher::Matcher;
 
-pub fn eat_plain_cell(
-    p: Parser,
-    tokens: &[u32],
-    events: &mut [u32],
-    reports: &mut [u32],
-    pool: &mut [u32],
-) -> ParserTested
-    ensures parser_walks { ParserWalks plain_cell p (parser_tested result) tokens events reports pool }
-    ensures s_bound { tokens_left tokens.now result.p.s ≤ tokens_left tokens.now p.s }
-    ensures s_bound_2 { result.yes ≡ true → tokens_left tokens.now result.p.s < tokens_left tokens.now p.s }
+pub fn eat_plain_cell(p: &mut Parser) -> bool
+    ensures walks { Walks plain_cell p.old (truth result) p.new }
+    ensures taken { result ≡ true → tokens_left p.new < tokens_left p.old }
 {
-    let mut codes = p.codes;
-    let e = plain_cell::eat(p.s, &mut codes, tokens, events, reports, pool);
-    let s = e.s;
-    let q = Parser { codes: codes, s: s };
-    ParserTested { p: q, yes: e.yes }
+    p.add_expected(Expected::Cell);
+    if p.silent_eat(Matcher::Either(TokenKind::Number, TokenKind::Char)) {
+        return true;
+    }
+    if p.silent_at(TokenKind::Ident) {
+        macro_invocation(p);
+        return true;
+    }
+    p.silent_eat(Reference)
 }

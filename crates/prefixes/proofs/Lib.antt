@@ -1,2 +1,3 @@
 -- What the proofs of this crate and of `grammar` share.
 pub mod Laws
+pub mod Stops

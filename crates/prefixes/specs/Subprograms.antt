@@ -7,17 +7,13 @@ use Rattle.definitions.specs.Prog.{Ans, again, Prog, ret, ◌⨟◌, in_marker, 
 use Rattle.definitions.specs.Check.{when◌then◌else◌, ◌and◌, error_bump, of_kind, silent, eat}
 use Rattle.definitions.specs.Grammar.{MacroSubstitutableName, UnitAddress, prefix_turn}
 
--- the third test of `prefix_turn`
-abbrev pub unit_address_and_colon : Prog
-unit_address_and_colon = eat UnitAddress and silent (of_kind K.Colon)
-
 -- the first case of `prefix_turn`, from its marker on
 abbrev pub label_or_name : Ans → Prog
 label_or_name own_name =
     in_marker
     (MacroSubstitutableName.consume
     ⨟ when eat (of_kind K.Colon) then ret N.DtLabel again
-    else when unit_address_and_colon then error_bump E.at_sign_in_label E.no_hint ⨟ ret N.ParseError again
+    else when eat UnitAddress and silent (of_kind K.Colon) then error_bump E.at_sign_in_label E.no_hint ⨟ ret N.ParseError again
     else ret N.NO_NODE own_name)
 
 -- the loop of `eat_node_or_prop_prefix`

@@ -1,23 +1,11 @@
-// Token indexes that the parser's own moves of its cursor come to.
-ghost use Rattle.std.specs.Prelude.{◌≡◌, List, ℕ, drop};
+// Token indexes that a move of the cursor comes to.
+ghost use Rattle.std.specs.Prelude.{◌≡◌, drop};
 ghost use Rattle.definitions.specs.Token.{tokens_of, drop_trivia, past};
-ghost use Rattle.machine.specs.Machine.{with_cursor};
-ghost use Rattle.machine.specs.Outcome.{fresh};
-ghost use Rattle.parser.specs.View.{view};
 ghost use Rattle.source.specs.Cursor.{after_trivia, after_token};
 
 use layout::TokenIndex;
-use parser::State;
-
-// A parser that has taken nothing and whose cursor is here.
-fn standing(at: TokenIndex) -> State
-    ensures { (codes events reports pool : List ℕ) → view result codes events reports pool
-        ≡ with_cursor at.0 0 (fresh events reports pool) }
-{
-    let mut s = State::new();
-    s.cursor = at;
-    s
-}
+use layout::row::TOKEN_ROW;
+use token_rows::token::skip_trivia;
 
 // The index of the first token from here on that is not trivia.
 pub fn past_trivia(tokens: &[u32], at: TokenIndex) -> TokenIndex
@@ -25,8 +13,7 @@ pub fn past_trivia(tokens: &[u32], at: TokenIndex) -> TokenIndex
     ensures tokens_value { drop result.0 (tokens_of tokens.now)
         ≡ drop_trivia (drop at.0 (tokens_of tokens.now)) }
 {
-    let s = standing(at).peek(tokens);
-    s.cursor
+    TokenIndex(skip_trivia(tokens, at.0, 0).at)
 }
 
 // The index after that token; at the end it stays.
@@ -35,6 +22,10 @@ pub fn past_token(tokens: &[u32], at: TokenIndex) -> TokenIndex
     ensures tokens_value { drop result.0 (tokens_of tokens.now)
         ≡ past (drop_trivia (drop at.0 (tokens_of tokens.now))) }
 {
-    let s = standing(at).peek(tokens).next_token(tokens);
-    s.cursor
+    let TokenIndex(here) = past_trivia(tokens, at);
+    if here < tokens.len() / TOKEN_ROW {
+        TokenIndex(here + 1)
+    } else {
+        TokenIndex(here)
+    }
 }

@@ -1,25 +1,7 @@
--- Answers that are more than yes and no, as the machine sees them. What the contracts of the grammar cite.
-use Rattle.std.specs.Prelude.{ℕ, Bool, true, false, List}
-use Rattle.definitions.specs.Prog.{Ans, yes, also}
-use Rattle.machine.specs.Walk.{Walked, said}
-use Rattle.parser.specs.View.{view, parser_view, ans_of}
-use Rattle.parser.specs.declared.StateAnswered.{StateAnswered}
-use Rattle.parser.specs.declared.ParserAnswered.{ParserAnswered}
+-- Answers that are more than yes and no. What the contracts of the grammar cite.
+use Rattle.std.specs.Prelude.{ℕ}
 use Rattle.parser.specs.declared.Ans.{Ans as CodeAns}
 use Rattle.parser.specs.declared.Ans.TheVariants.{No, Yes, Also, Again}
-
--- an answer, and the machine after it
-abbrev pub state_answered : StateAnswered → List ℕ → List ℕ → List ℕ → List ℕ → Walked
-state_answered r codes events reports pool = said (ans_of r.ans) (view r.s codes events reports pool)
-
--- the same of the whole parser
-abbrev pub parser_answered : ParserAnswered → List ℕ → List ℕ → List ℕ → Walked
-parser_answered r events reports pool = said (ans_of r.ans) (parser_view r.p events reports pool)
-
--- the answer at a node's or property's own name, by `allow_prop`
-abbrev pub own_name : Bool → Ans
-own_name true = also
-own_name false = yes
 
 -- how many tokens were surely taken where a function answers so: one for `Again`
 abbrev pub took_if_again : CodeAns → ℕ

@@ -1,27 +1,14 @@
--- `eat_dts_include`, with the codes in the parser.
+-- `eat_dts_include`: the directive, and the file's name.
 use native.Mathlib.Omega.{arith}
+use Rattle.parser.proofs.Ways.{walks, opened, yes_case, no_case, node, seq, stay}
+use Rattle.directives.proofs.Laws.{include_is}
 use Rattle.directives.proofs.eat_dts_include.Goals as goal
 
-pub shape_of-events : goal.shape_of-events
-shape_of-events c =
-    let a = c in
-    omega (arith, a.eat_dts_include-e.auto)
+pub returns-then-not-at-clause-walks : goal.returns-then-not-at-clause-walks
+returns-then-not-at-clause-walks c =
+    walks (λ ask b. opened include_is (no_case (c.at.ensures.walks.way ask b) c.if-not-at.true stay))
 
-pub shape_of-reports : goal.shape_of-reports
-shape_of-reports c =
-    let a = c in
-    omega (arith, a.eat_dts_include-e.auto)
-
-pub shape_of-pool : goal.shape_of-pool
-shape_of-pool c =
-    let a = c in
-    omega (arith, a.eat_dts_include-e.auto)
-
-pub returns : goal.returns
-returns c =
-    let a = c in
-    record {
-      parser_walks = a.eat_dts_include-e.ensures.walks;
-      s_bound = a.eat_dts_include-e.ensures.s_bound;
-      s_bound_2 = a.eat_dts_include-e.ensures.s_bound_2;
-    }
+pub returns-clause-walks : goal.returns-clause-walks
+returns-clause-walks c =
+    walks (λ ask b. opened include_is (yes_case (c.at.ensures.walks.way ask b) c.if-not-at.false
+    (node (omega arith) c.start-m.ensures.marker c.start-m.ensures.becomes (seq (c.consume.ensures.walks.way ask b) (seq (c.expect.ensures.walks.way ask b) stay)) c.complete.ensures.becomes)))

@@ -1,15 +1,14 @@
 -- `dt_expr`: a marker around an expression in brackets.
-use native.Mathlib.Omega.{arith}
-use Rattle.definitions.specs.Token.{tokens_of}
+use Rattle.std.proofs.Common.{arith}
 use Rattle.definitions.specs.Grammar.{dt_expr}
 use Rattle.machine.specs.Walk.{walk_rule, unlabelled}
-use Rattle.machine.proofs.Way.{c_walk, c_act, c_ret, c_seq, c_mark, completed, c_call, way}
+use Rattle.parser.proofs.Ways.{node, seq, stay, call}
 use Rattle.expr.proofs.dt_expr.Goals as goal
 
-pub returns : goal.returns
+pub returns-clause-walks : goal.returns-clause-walks
 unfolding dt_expr
-returns c =
-    record {
-      walks_within = way c.args.allowed (c_mark c.new-m.ensures (c.start-started.ensures.parser_writes_events _ _) (c_seq (c_seq (c_act (c.bump-opened.ensures.parser_bumps unlabelled _ _)) (c_seq (c_call c.args.allowed c.expr-inner.ensures.opens_within) (c_walk (c.expect-end.ensures.parser_walks (walk_rule c.args.allowed (tokens_of c.args.tokens.now)) unlabelled)))) c_ret) (completed (c.complete.ensures.parser_writes_events _ _)));
-      s_bound = omega (arith, c.start-started.ensures.by_index c.args.tokens.now, c.bump-opened.ensures.s_bound, c.expr-inner.ensures.s_bound, c.expect-end.ensures.s_bound, c.complete.ensures.by_index c.args.tokens.now);
-    }
+returns-clause-walks c =
+    let n = c.args.allowed in
+    node (omega arith) c.start-m.ensures.marker c.start-m.ensures.becomes
+    (seq (seq (c.bump.ensures.walks.way (walk_rule n) unlabelled) (seq (call n c.expr.ensures.opens) (c.expect.ensures.walks.way (walk_rule n) unlabelled))) stay)
+    c.complete.ensures.becomes

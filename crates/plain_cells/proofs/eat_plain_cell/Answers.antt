@@ -1,27 +1,20 @@
--- `eat_plain_cell`, with the codes in the parser.
-use native.Mathlib.Omega.{arith}
+use Rattle.definitions.specs.Check.{silent}
+use Rattle.parser.proofs.Ways.{walks, yes_case, no_case, seq, stay}
 use Rattle.plain_cells.proofs.eat_plain_cell.Goals as goal
 
-pub shape_of-events : goal.shape_of-events
-shape_of-events c =
-    let a = c in
-    omega (arith, a.eat-e.auto)
+pub returns-then-silent_eat-clause-walks : goal.returns-then-silent_eat-clause-walks
+returns-then-silent_eat-clause-walks c = walks (λ ask b. seq (c.add_expected.ensures.way ask b) (yes_case (c.silent_eat.ensures.walks.way ask b) c.if-silent_eat.true stay))
 
-pub shape_of-reports : goal.shape_of-reports
-shape_of-reports c =
-    let a = c in
-    omega (arith, a.eat-e.auto)
+pub returns-then-silent_at-clause-walks : goal.returns-then-silent_at-clause-walks
+unfolding silent
+returns-then-silent_at-clause-walks c = walks (λ ask b.
+    seq (c.add_expected.ensures.way ask b)
+    (no_case (c.silent_eat.ensures.walks.way ask b) c.if-silent_eat.false
+    (yes_case (c.silent_at.ensures.walks.way ask b) c.if-silent_at.true (seq (c.macro_invocation.ensures.walks.way ask b) stay))))
 
-pub shape_of-pool : goal.shape_of-pool
-shape_of-pool c =
-    let a = c in
-    omega (arith, a.eat-e.auto)
-
-pub returns : goal.returns
-returns c =
-    let a = c in
-    record {
-      parser_walks = a.eat-e.ensures.walks;
-      s_bound = a.eat-e.ensures.s_bound;
-      s_bound_2 = a.eat-e.ensures.s_bound_2;
-    }
+pub returns-clause-walks : goal.returns-clause-walks
+unfolding silent
+returns-clause-walks c = walks (λ ask b.
+    seq (c.add_expected.ensures.way ask b)
+    (no_case (c.silent_eat.ensures.walks.way ask b) c.if-silent_eat.false
+    (no_case (c.silent_at.ensures.walks.way ask b) c.if-silent_at.false (c.silent_eat-2.ensures.walks.way ask b))))

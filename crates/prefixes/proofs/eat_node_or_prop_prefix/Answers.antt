@@ -1,26 +1,10 @@
--- `eat_node_or_prop_prefix`, with the codes in the parser.
-use native.Mathlib.Omega.{arith}
+use Rattle.parser.proofs.Ways.{walks, opened, yes_case, no_case}
+use Rattle.prefixes.proofs.Laws.{labels_is}
 use Rattle.prefixes.proofs.eat_node_or_prop_prefix.Goals as goal
 
-pub shape_of-events : goal.shape_of-events
-shape_of-events c =
-    let a = c in
-    omega (arith, a.eat_node_or_prop_prefix-e.auto)
+pub returns-then-eat-clause-walks : goal.returns-then-eat-clause-walks
+returns-then-eat-clause-walks c = walks (λ ask b. opened labels_is (yes_case (c.eat.ensures.walks.way ask b) c.if-eat.true (c.labels_and_name.ensures.walks.way ask b)))
 
-pub shape_of-reports : goal.shape_of-reports
-shape_of-reports c =
-    let a = c in
-    omega (arith, a.eat_node_or_prop_prefix-e.auto)
-
-pub shape_of-pool : goal.shape_of-pool
-shape_of-pool c =
-    let a = c in
-    omega (arith, a.eat_node_or_prop_prefix-e.auto)
-
-pub returns : goal.returns
-returns c =
-    let a = c in
-    record {
-      parser_walks = a.eat_node_or_prop_prefix-e.ensures.walks;
-      s_bound = a.eat_node_or_prop_prefix-e.ensures.s_bound;
-    }
+pub returns-else-eat-clause-walks : goal.returns-else-eat-clause-walks
+returns-else-eat-clause-walks c =
+    walks (λ ask b. opened labels_is (no_case (c.eat.ensures.walks.way ask b) c.if-eat.false (c.labels_and_name-else-eat.ensures.walks.way ask b)))

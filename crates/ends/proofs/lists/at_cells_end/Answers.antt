@@ -1,29 +1,11 @@
--- `at_cells_end` is the walk of its program, step by step.
-use native.Mathlib.Omega.{arith}
-use Rattle.definitions.specs.Token.{tokens_of}
 use Rattle.definitions.specs.Grammar.{cells_end}
-use Rattle.machine.proofs.Way.{c_walk, c_act, c_seq}
-use Rattle.steps.proofs.Ways.{c_flag}
+use Rattle.parser.proofs.Ways.{walks, seq}
 use Rattle.ends.proofs.lists.at_cells_end.Goals as goal
 
 pub returns-then-until_end : goal.returns-then-until_end
 unfolding cells_end
-returns-then-until_end c =
-    let a = c in
-    let d = a in
-    let e = d in
-    let s = e in
-    record {
-      looks = λ ask b events reports pool. (c_flag cells_end e.if-until_end.true (c_seq (c_act (d.add_expected-q.ensures.adds (tokens_of s.args.tokens.now) b _ _ _)) (c_act (a.at_end.ensures.tests b _ _ _ _)))).is;
-      s_bound = omega (arith, d.add_expected-q.ensures.by_index s.args.tokens.now, a.at_end.ensures.s_bound);
-    }
+returns-then-until_end c = rw (c.if-until_end.true) (walks (λ ask b. seq (c.add_expected.ensures.way ask b) (c.at_end.ensures.walks.way ask b)))
 
 pub returns-else-until_end : goal.returns-else-until_end
 unfolding cells_end
-returns-else-until_end c =
-    let a = c in
-    let d = a in
-    record {
-      looks = λ ask b events reports pool. (c_flag cells_end d.if-until_end.false (c_walk (a.at.ensures.looks ask b _ _ _))).is;
-      s_bound = omega (arith, a.at.ensures.s_bound);
-    }
+returns-else-until_end c = rw (c.if-until_end.false) c.at.ensures.walks

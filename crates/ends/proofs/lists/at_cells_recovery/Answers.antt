@@ -1,64 +1,49 @@
--- `at_cells_recovery` is the walk of its program, step by step.
-use mathlib.Core.Path.{sym, ◌∙◌}
-use mathlib.Core.Bool.{true≢false}
-use native.Mathlib.Omega.{arith}
-use Rattle.definitions.specs.Check.{silent}
-use Rattle.machine.proofs.Way.{c_act, c_yes, c_no}
-use Rattle.steps.proofs.Steps.{c_ret_yes}
-use borrow.Author.Rules.{rules}
+-- `at_cells_recovery`: four tests, of which the first that holds ends it.
+use mathlib.Core.List.{[], ◌∷◌}
+use Rattle.std.specs.Prelude.{None}
+use Rattle.definitions.specs.TokenKind as K
+use Rattle.definitions.specs.NodeKind.{NO_NODE}
+use Rattle.definitions.specs.Prog.{Prog}
+use Rattle.definitions.specs.Check.{◌or◌, end?, set, silent}
+use Rattle.definitions.specs.Grammar.{CONTINUE_COND_SET}
+use Rattle.definitions.specs.Run.{truth}
+use Rattle.parser.specs.View.{Way}
+use Rattle.parser.proofs.Ways.{walks, shown, yes_case, no_case, stay}
+use Rattle.ends.proofs.Tests.{or_or}
+use Rattle.ends.proofs.lists.at_cells_recovery.Goals.{then-silent_at_set, else-silent_at_set, then-at_end, else-at_end}
 use Rattle.ends.proofs.lists.at_cells_recovery.Goals as goal
 
-pub returns-then-cut : goal.returns-then-cut
-unfolding silent
-returns-then-cut c =
-    let a = c in
-    let d = a in
-    record {
-      sees = λ ask b codes events reports pool. (c_yes (c_act (d.silent_at_set-cut.ensures.tests b _ _ _ _)) a.if-cut.true (c_ret_yes a.if-cut.true)).is;
-      s_bound = omega (arith, d.silent_at_set-cut.ensures.s_bound, d.silent_at_set-cut.ensures.s_nonzero a.if-cut.true);
-      s_nonzero = λ h. absurd (true≢false (sym a.if-cut.true ∙ h));
-    }
+-- the first two, and the first three
+abbrev two : Prog
+two = silent (set (K.Semicolon ∷ K.LCurly ∷ K.RCurly ∷ [])) or end?
 
-pub returns-then-end : goal.returns-then-end
-unfolding silent
-returns-then-end c =
-    let a = c in
-    let d = a in
-    let e = d in
-    let f = e in
-    record {
-      sees = λ ask b codes events reports pool. (c_no (c_act (f.silent_at_set-cut.ensures.tests b _ _ _ _)) e.if-cut.false (c_yes (c_act (d.at_end-end.ensures.tests b _ _ _ _)) a.if-end.true (c_ret_yes a.if-end.true))).is;
-      s_bound = omega (arith, f.silent_at_set-cut.ensures.s_bound, d.at_end-end.ensures.s_bound);
-      s_nonzero = λ h. absurd (true≢false (sym a.if-end.true ∙ h));
-    }
+abbrev three : Prog
+three = two or silent (set CONTINUE_COND_SET)
 
-pub returns-then-branch : goal.returns-then-branch
+pub returns-then-silent_at_set-2-clause-walks : goal.returns-then-silent_at_set-2-clause-walks
 unfolding silent
-returns-then-branch c =
-    let a = c in
-    let d = a in
-    let e = d in
-    let f = e in
-    let g = f in
-    let i = g in
-    record {
-      sees = λ ask b codes events reports pool. (c_no (c_act (i.silent_at_set-cut.ensures.tests b _ _ _ _)) g.if-cut.false (c_no (c_act (f.at_end-end.ensures.tests b _ _ _ _)) e.if-end.false (c_yes (c_act (d.silent_at_set-branch.ensures.tests b _ _ _ _)) a.if-branch.true (c_ret_yes a.if-branch.true)))).is;
-      s_bound = omega (arith, i.silent_at_set-cut.ensures.s_bound, f.at_end-end.ensures.s_bound, f.at_end-end.ensures.s_nonzero e.if-end.false, d.silent_at_set-branch.ensures.s_bound, d.silent_at_set-branch.ensures.s_nonzero a.if-branch.true);
-      s_nonzero = λ h. absurd (true≢false (sym a.if-branch.true ∙ h));
-    }
+returns-then-silent_at_set-2-clause-walks c = walks (λ ask b.
+    let first = c.silent_at_set.ensures.walks.way ask b in
+    let two_way : Way ask b None two c.args.p.now (truth c.if-silent_at_set.value) NO_NODE c.if-silent_at_set.p = elim c.if-silent_at_set.branch [
+      | then-silent_at_set w ↦ rw (w.p-is, w.value-is) (shown w.if-silent_at_set.true (yes_case first w.if-silent_at_set.true stay))
+      | else-silent_at_set w ↦ rw (w.p-is, w.value-is) (no_case first w.if-silent_at_set.false (w.at_end.ensures.walks.way ask b))
+    ] in
+    let three_way : Way ask b None three c.args.p.now (truth c.if-at_end.value) NO_NODE c.if-at_end.p = elim c.if-at_end.branch [
+      | then-at_end w ↦ rw (w.p-is, w.value-is) (shown w.if-at_end.true (yes_case two_way w.if-at_end.true stay))
+      | else-at_end w ↦ rw (w.p-is, w.value-is) (no_case two_way w.if-at_end.false (w.silent_at_set-else-at_end.ensures.walks.way ask b))
+    ] in
+    shown c.if-silent_at_set-2.true (or_or (or_or (yes_case three_way c.if-silent_at_set-2.true stay))))
 
-pub returns : goal.returns
+pub returns-else-silent_at_set-2-clause-walks : goal.returns-else-silent_at_set-2-clause-walks
 unfolding silent
-returns c =
-    let a = c in
-    let d = a in
-    let e = d in
-    let f = e in
-    let g = f in
-    let i = g in
-    let j = i in
-    record {
-      sees = λ ask b codes events reports pool. (c_no (c_act (j.silent_at_set-cut.ensures.tests b _ _ _ _)) i.if-cut.false (c_no (c_act (g.at_end-end.ensures.tests b _ _ _ _)) f.if-end.false (c_no (c_act (e.silent_at_set-branch.ensures.tests b _ _ _ _)) d.if-branch.false (c_act (a.silent_at.ensures.tests b _ _ _ _))))).is;
-      s_bound = omega (arith, j.silent_at_set-cut.ensures.s_bound, g.at_end-end.ensures.s_bound, g.at_end-end.ensures.s_nonzero f.if-end.false, e.silent_at_set-branch.ensures.s_bound, a.silent_at.ensures.s_bound);
-      s_nonzero = λ h. omega (arith, j.silent_at_set-cut.ensures.s_bound, g.at_end-end.ensures.s_bound, g.at_end-end.ensures.s_nonzero f.if-end.false, e.silent_at_set-branch.ensures.s_bound, a.silent_at.ensures.s_bound);
-    }
+returns-else-silent_at_set-2-clause-walks c = walks (λ ask b.
+    let first = c.silent_at_set.ensures.walks.way ask b in
+    let two_way : Way ask b None two c.args.p.now (truth c.if-silent_at_set.value) NO_NODE c.if-silent_at_set.p = elim c.if-silent_at_set.branch [
+      | then-silent_at_set w ↦ rw (w.p-is, w.value-is) (shown w.if-silent_at_set.true (yes_case first w.if-silent_at_set.true stay))
+      | else-silent_at_set w ↦ rw (w.p-is, w.value-is) (no_case first w.if-silent_at_set.false (w.at_end.ensures.walks.way ask b))
+    ] in
+    let three_way : Way ask b None three c.args.p.now (truth c.if-at_end.value) NO_NODE c.if-at_end.p = elim c.if-at_end.branch [
+      | then-at_end w ↦ rw (w.p-is, w.value-is) (shown w.if-at_end.true (yes_case two_way w.if-at_end.true stay))
+      | else-at_end w ↦ rw (w.p-is, w.value-is) (no_case two_way w.if-at_end.false (w.silent_at_set-else-at_end.ensures.walks.way ask b))
+    ] in
+    or_or (or_or (no_case three_way c.if-silent_at_set-2.false (c.silent_at.ensures.walks.way ask b))))

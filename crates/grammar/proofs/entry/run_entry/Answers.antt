@@ -1,16 +1,27 @@
--- `run_entry`: a new parser, the entry, and what it leaves.
-use mathlib.Core.Path.{ap, ◌∙◌}
+-- `run_entry`: the entry and what it leaves over, from a fresh parser.
+use Rattle.std.proofs.Common.{rules}
+use mathlib.Core.Path.{◌≡◌, sym, ap, ◌∙◌}
+use Rattle.definitions.specs.Grammar.{whole}
+use Rattle.machine.specs.Machine.{Machine, Pending, with_pending}
+use Rattle.machine.specs.Walk.{walk_prog, walk, walk_rule, unlabelled}
+use Rattle.machine.specs.Outcome.{fresh}
 use Rattle.definitions.specs.Layout.{MOST_OPEN_CALLS}
 use Rattle.definitions.specs.Token.{tokens_of}
-use Rattle.definitions.specs.Grammar.{whole}
-use Rattle.machine.specs.Machine.{Machine}
-use Rattle.machine.specs.Walk.{walk_rule, walk_prog, unlabelled}
-use Rattle.machine.proofs.Way.{c_walk}
 use Rattle.grammar.specs.Subprograms.{entry_for}
-use Rattle.grammar.proofs.Ways.{c_prog_on, prog_on}
+use Rattle.parser.proofs.Ways.{seq, ends, lands}
 use Rattle.grammar.proofs.entry.run_entry.Goals as goal
 
 pub returns : goal.returns
-unfolding whole
+unfolding whole walk_prog
 returns c =
-    prog_on MOST_OPEN_CALLS (c_prog_on MOST_OPEN_CALLS c.enter-parsed.ensures.walks_within_on (c_walk (c.left_over.ensures.parser_walks (walk_rule MOST_OPEN_CALLS (tokens_of c.args.tokens.now)) unlabelled))) ∙ ap (λ (m : Machine). (walk_prog MOST_OPEN_CALLS (tokens_of c.args.tokens.now) unlabelled (whole (entry_for c.args.entrypoint)) m).on) (c.new-p.ensures _ _ _)
+    let w = ends (seq (lands c.enter.ensures) (c.left_over.ensures.way _ _)) in
+    let ts = tokens_of c.args.tokens.now in
+    let f = fresh c.args.events.now c.args.reports.now c.args.pool.now in
+    let e = w.is ∙ ap (λ (x : Pending). (walk (walk_rule MOST_OPEN_CALLS ts) ts unlabelled (whole (entry_for c.args.entrypoint)) (with_pending x f)).on) c.none.ensures in
+    record {
+      events = search (rules, ap (λ (m : Machine). m.events) e);
+      reports = search (rules, ap (λ (m : Machine). m.reports) e);
+      pool = search (rules, ap (λ (m : Machine). m.pool) e);
+      refusal = ap (λ (m : Machine). m.refusal) e;
+      place = ap (λ (m : Machine). m.place) e;
+    }

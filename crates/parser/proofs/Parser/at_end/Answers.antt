@@ -1,17 +1,5 @@
--- `at_end`: of the numbers; the codes stay.
-use Rattle.basics.proofs.Flags.{flags}
-use Rattle.parser.proofs.Moves.{with_said, with_left}
+use Rattle.parser.proofs.Moves.{walks_end, ended_rest}
 use Rattle.parser.proofs.Parser.at_end.Goals as goal
 
-pub returns : goal.returns
-returns c =
-    let args = c.args in
-    let tokens = args.tokens.now in
-    let at_end = c.at_end-e in
-    let kept = c.with-p in
-    record {
-      parser_tests = λ b events reports pool. with_said _ _ _ events reports pool _ _ kept.ensures (at_end.ensures.tests b args.self.codes events reports pool);
-      s_bound = omega (flags, with_left _ _ _ tokens kept.ensures, at_end.ensures.s_bound);
-      s_nonzero = λ e. omega (flags, with_left _ _ _ tokens kept.ensures, at_end.ensures.s_nonzero e);
-      s_value = λ e. omega (flags, with_left _ _ _ tokens kept.ensures, at_end.ensures.s_value e);
-    }
+pub returns-clause-walks : goal.returns-clause-walks
+returns-clause-walks c = walks_end _ _ _ c.peek.ensures (ended_rest _ _ c.has_token.ensures.some c.has_token.ensures.none)

@@ -1,15 +1,9 @@
--- `bump`: of the numbers; the codes stay.
-use Rattle.basics.proofs.Flags.{flags}
-use Rattle.parser.proofs.Moves.{with_said, with_left}
+use Rattle.parser.proofs.Moves.{walks_bump, walks_bump_past}
 use Rattle.parser.proofs.Parser.bump.Goals as goal
 
-pub returns : goal.returns
-returns c =
-    let args = c.args in
-    let tokens = args.tokens.now in
-    let bump = c.bump-s in
-    let kept = c.with in
-    record {
-      parser_bumps = λ b reports pool. with_said _ _ _ _ reports pool _ _ kept.ensures (bump.ensures.bumps b args.self.codes reports pool);
-      s_bound = omega (flags, with_left _ _ _ tokens kept.ensures, bump.ensures.result_bound);
-    }
+pub returns-then-has_token-clause-walks : goal.returns-then-has_token-clause-walks
+returns-then-has_token-clause-walks c =
+    walks_bump _ _ c.peek.ensures _ _ (c.has_token.ensures.some c.if-has_token.true) c.next_token.ensures.becomes c.push_event.ensures
+
+pub returns-else-has_token-clause-walks : goal.returns-else-has_token-clause-walks
+returns-else-has_token-clause-walks c = walks_bump_past _ _ c.peek.ensures (c.has_token.ensures.none c.if-has_token.false)

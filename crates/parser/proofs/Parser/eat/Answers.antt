@@ -1,9 +1,13 @@
--- `eat`: with the codes lent.
+use Rattle.definitions.specs.Check as C
+use Rattle.parser.proofs.Ways.{walks, shown, yes_case, no_case, seq, stay}
 use Rattle.parser.proofs.Parser.eat.Goals as goal
 
-pub returns : goal.returns
-returns c = record {
-  parser_moves = c.eat-e.ensures.eats;
-  s_bound = c.eat-e.ensures.s_bound;
-  s_bound_2 = c.eat-e.ensures.s_bound_2;
-}
+pub returns-then-matched-clause-walks : goal.returns-then-matched-clause-walks
+unfolding C.eat
+returns-then-matched-clause-walks g c =
+    walks (λ ask b. shown c.if-matched.true (yes_case (c.silent-matched.ensures.walks.way ask b) c.if-matched.true (seq (c.consume.ensures.walks.way ask b) stay)))
+
+pub returns-else-matched-clause-walks : goal.returns-else-matched-clause-walks
+unfolding C.eat
+returns-else-matched-clause-walks g c =
+    walks (λ ask b. shown c.if-matched.false (no_case (c.silent-matched.ensures.walks.way ask b) c.if-matched.false (seq (c.push_expected.ensures.way ask b) stay)))

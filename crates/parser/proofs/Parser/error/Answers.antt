@@ -1,15 +1,12 @@
--- `error`: with the codes lent; they stay.
-use Rattle.basics.proofs.Flags.{flags}
-use Rattle.parser.proofs.Moves.{with_said, with_left}
+-- `error`: a report, and then what it takes.
+use Rattle.parser.proofs.Ways.{walks, seq, emits}
 use Rattle.parser.proofs.Parser.error.Goals as goal
 
-pub returns : goal.returns
-returns c =
-    let args = c.args in
-    let tokens = args.tokens.now in
-    let error = c.error-s in
-    let kept = c.with in
-    record {
-      parser_walks = λ ask b. with_said _ _ _ _ _ _ _ _ kept.ensures (error.ensures.walks ask b);
-      s_bound = omega (flags, with_left _ _ _ tokens kept.ensures, error.ensures.result_bound);
-    }
+pub returns-in-No-clause-walks : goal.returns-in-No-clause-walks
+returns-in-No-clause-walks c = rw (c.in-No.is) (emits c.emit.ensures)
+
+pub returns-in-Yes-clause-walks : goal.returns-in-Yes-clause-walks
+returns-in-Yes-clause-walks c = rw (c.in-Yes.is) (walks (λ ask b. seq ((emits c.emit.ensures).way ask b) (c.bump_unless_at_end.ensures.walks.way ask b)))
+
+pub returns-in-YesWrapErr-clause-walks : goal.returns-in-YesWrapErr-clause-walks
+returns-in-YesWrapErr-clause-walks c = rw (c.in-YesWrapErr.is) (walks (λ ask b. seq ((emits c.emit.ensures).way ask b) (c.wrap_unless_at_end.ensures.walks.way ask b)))

@@ -1,9 +1,12 @@
--- `expect`: with the codes lent.
+use Rattle.definitions.specs.Check as C
+use Rattle.parser.proofs.Ways.{walks, yes_case, no_case, seq, stay}
 use Rattle.parser.proofs.Parser.expect.Goals as goal
 
-pub returns : goal.returns
-returns c = record {
-  parser_walks = c.expect-e.ensures.walks;
-  s_bound = c.expect-e.ensures.s_bound;
-  s_bound_2 = c.expect-e.ensures.s_bound_2;
-}
+pub returns-then-eat-clause-walks : goal.returns-then-eat-clause-walks
+unfolding C.expect
+returns-then-eat-clause-walks g c = walks (λ ask b. yes_case (c.eat.ensures.walks.way ask b) c.if-eat.true stay)
+
+pub returns-clause-walks : goal.returns-clause-walks
+unfolding C.expect
+returns-clause-walks g c =
+    walks (λ ask b. no_case (c.eat.ensures.walks.way ask b) c.if-eat.false (seq (c.error.ensures.walks.way ask b) stay))

@@ -1,15 +1,14 @@
--- `peek`: of the numbers; the codes stay.
+use Rattle.std.proofs.Common.{refl}
 use Rattle.basics.proofs.Flags.{flags}
-use Rattle.parser.proofs.Moves.{with_view, with_left}
+use Rattle.machine.specs.Machine as M
+use Rattle.parser.specs.View.{view, tokens_left}
 use Rattle.parser.proofs.Parser.peek.Goals as goal
 
 pub returns : goal.returns
+unfolding M.peek tokens_left
 returns c =
-    let args = c.args in
-    let tokens = args.tokens.now in
-    let peek = c.peek-s in
-    let kept = c.with in
     record {
-      parser_becomes = λ events reports pool. with_view _ _ _ events reports pool _ kept.ensures (peek.ensures.becomes args.self.codes events reports pool);
-      s_bound = omega (flags, with_left _ _ _ tokens kept.ensures, peek.ensures.result_bound);
+      is = c.skip_trivia-seat.ensures.m_value (view c.args.self.now);
+      same = record { tokens = refl; events = refl; reports = refl; pool = refl };
+      left = omega (flags, c.skip_trivia-seat.ensures.from_le_at);
     }

@@ -1,21 +1,32 @@
--- `refuse`: past every row nothing is left.
-use Rattle.parser.proofs.Stores.{left_none, refused_past}
-use mathlib.Core.Path.{◌∙◌}
-use mathlib.Core.List.{[]}
-use Rattle.parser.specs.View.{view}
-use Rattle.parser.proofs.Moves.{with_view, with_left}
+use Rattle.std.proofs.Common.{refl, ◌∙◌}
+use Rattle.basics.proofs.Flags.{flags}
+use Rattle.parser.specs.View.{view, tokens_left}
+use Rattle.parser.proofs.Stores.{quiet, refuse_first, refuse_again}
+use Rattle.parser.proofs.Parser.refuse.Goals.{then-is_none, else-is_none}
 use Rattle.parser.proofs.Parser.refuse.Goals as goal
 
-pub returns : goal.returns
-returns c =
-    let args = c.args in
-    let refuse = c.refuse-s in
-    let kept = c.with in
-    record {
-      parser_becomes = λ events reports pool. with_view _ _ _ events reports pool _ kept.ensures (refuse.ensures.becomes args.self.codes events reports pool);
-      by_index = λ tokens h.
-          with_left _ _ _ tokens kept.ensures
-          ∙ left_none tokens refuse.result
-          (refused_past args.number (view args.self.s args.self.codes [] [] []) _
-          (refuse.ensures.becomes args.self.codes [] [] [])) h;
-    }
+pub returns-clause-becomes : goal.returns-clause-becomes
+unfolding tokens_left
+returns-clause-becomes c =
+    let q = quiet c.args.self.now.refused c.is_none.result c.is_none.ensures in
+    elim c.if-is_none.branch [
+      | then-is_none w ↦ record {
+        is = rw (w.self-is) (refuse_first _ (view c.args.self.now) (q ∙ w.if-is_none.true));
+        same = rw (w.self-is) (record { tokens = refl; events = refl; reports = refl; pool = refl });
+        left = rw (w.self-is) (omega flags);
+      }
+      | else-is_none w ↦ record {
+        is = rw (w.self-is) (refuse_again _ (view c.args.self.now) (q ∙ w.if-is_none.false));
+        same = rw (w.self-is) (record { tokens = refl; events = refl; reports = refl; pool = refl });
+        left = rw (w.self-is) (omega flags);
+      }
+    ]
+
+pub returns-clause-ended : goal.returns-clause-ended
+unfolding tokens_left
+returns-clause-ended c =
+    let h = c.if-prove.false in
+    elim c.if-is_none.branch [
+      | then-is_none w ↦ let k = rw w.self-is at h in rw (w.self-is) (omega (flags, k))
+      | else-is_none w ↦ let k = rw w.self-is at h in rw (w.self-is) (omega (flags, k))
+    ]

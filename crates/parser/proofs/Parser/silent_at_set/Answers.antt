@@ -1,17 +1,8 @@
--- `silent_at_set`: of the numbers; the codes stay.
-use Rattle.basics.proofs.Flags.{flags}
-use Rattle.parser.proofs.Moves.{with_said, with_left}
+use Rattle.parser.proofs.Moves.{walks_silent, in_rows}
 use Rattle.parser.proofs.Parser.silent_at_set.Goals as goal
 
-pub returns : goal.returns
-returns c =
-    let args = c.args in
-    let tokens = args.tokens.now in
-    let silent-at-set = c.silent_at_set-e in
-    let kept = c.with-p in
-    record {
-      parser_tests = λ b events reports pool.
-          with_said _ _ _ events reports pool _ _ kept.ensures (silent-at-set.ensures.tests b args.self.codes events reports pool);
-      s_bound = omega (flags, with_left _ _ _ tokens kept.ensures, silent-at-set.ensures.s_bound);
-      s_nonzero = λ e. omega (flags, with_left _ _ _ tokens kept.ensures, silent-at-set.ensures.s_nonzero e);
-    }
+pub returns-clause-walks : goal.returns-clause-walks
+returns-clause-walks c = walks_silent _ _ _ _ c.peek.ensures c.is_one_of_at.ensures.value
+
+pub returns-clause-some : goal.returns-clause-some
+returns-clause-some c = λ e. in_rows _ (c.is_one_of_at.ensures.at_in_bounds e)

@@ -1,16 +1,13 @@
--- `silent_eat`: of the numbers; the codes stay.
-use Rattle.basics.proofs.Flags.{flags}
-use Rattle.parser.proofs.Moves.{with_said, with_left}
+use Rattle.definitions.specs.Check as C
+use Rattle.parser.proofs.Ways.{walks, shown, yes_case, no_case, seq, stay}
 use Rattle.parser.proofs.Parser.silent_eat.Goals as goal
 
-pub returns : goal.returns
-returns c =
-    let args = c.args in
-    let tokens = args.tokens.now in
-    let silent_eat = c.silent_eat-e in
-    let kept = c.with-p in
-    record {
-      parser_moves = λ ask b reports pool. with_said _ _ _ _ reports pool _ _ kept.ensures (silent_eat.ensures.moves ask b args.self.codes reports pool);
-      s_bound = omega (flags, with_left _ _ _ tokens kept.ensures, silent_eat.ensures.s_bound);
-      s_bound_2 = λ e. omega (flags, with_left _ _ _ tokens kept.ensures, silent_eat.ensures.s_bound_2 e);
-    }
+pub returns-then-matched-clause-walks : goal.returns-then-matched-clause-walks
+unfolding C.silent_eat
+returns-then-matched-clause-walks g c =
+    walks (λ ask b. shown c.if-matched.true (yes_case (c.silent-matched.ensures.walks.way ask b) c.if-matched.true (seq (c.consume.ensures.walks.way ask b) stay)))
+
+pub returns-else-matched-clause-walks : goal.returns-else-matched-clause-walks
+unfolding C.silent_eat
+returns-else-matched-clause-walks g c =
+    walks (λ ask b. shown c.if-matched.false (no_case (c.silent-matched.ensures.walks.way ask b) c.if-matched.false stay))

@@ -1,63 +1,41 @@
 -- `ends_statement`: one code, two codes, or neither.
-use Rattle.basics.proofs.Flags.{flags}
-use mathlib.Core.Path.{sym, ◌∙◌}
-use borrow.Author.Tests.{eqb-true, eqb-false}
-use Rattle.parser.proofs.Lists.{only_one, only_two, only_other}
+use Rattle.std.proofs.Common.{rules, arith, ◌≡◌, get_or}
+use Rattle.std.specs.Prelude.{◌≢◌}
+use Rattle.std.proofs.lemmas.Bool.{ne_eqb}
+use Rattle.parser.proofs.Lists.{only_one, only_two, only_none, only_many}
 use Rattle.parser.proofs.errors.ends_statement.Goals as goal
 
-pub bounds-codes-0 : goal.bounds-codes-0
-bounds-codes-0 c = omega (flags, c.requires)
+pub returns-in-29 : goal.returns-in-29
+returns-in-29 c = let e : get_or c.args.codes.now 0 0 ≡ 29 = search rules in rw (only_one c.args.codes.now (omega arith) (omega arith), e)
 
-pub returns-then-semicolon : goal.returns-then-semicolon
-returns-then-semicolon c =
-    let start = c in
-    let args = start.args in
-    let codes₀ = args.codes.now in
-    let if1 = c.if-one in
-    let if2 = c.if-semicolon in
-    sym (only_one codes₀ args.n start.requires (eqb-true _ _ if1.true-raw) ∙ rw if2.true-raw)
+pub returns-in-29-2 : goal.returns-in-29-2
+returns-in-29-2 c = let e : get_or c.args.codes.now 0 0 ≡ 2 = search rules in rw (only_one c.args.codes.now (omega arith) (omega arith), e)
 
-pub bounds-codes-0-then-one : goal.bounds-codes-0-then-one
-bounds-codes-0-then-one c = omega (flags, c.requires)
+pub returns-in-29-3 : goal.returns-in-29-3
+returns-in-29-3 c =
+    let e : get_or c.args.codes.now 0 0 ≡ 2 = search rules in
+    let f : get_or c.args.codes.now 1 0 ≡ 29 = search rules in
+    rw (only_two c.args.codes.now (omega arith) (omega arith), e, f)
 
-pub returns-then-one : goal.returns-then-one
-returns-then-one c =
-    let start = c in
-    let args = start.args in
-    let codes₀ = args.codes.now in
-    let if1 = c.if-one in
-    let if2 = c.if-semicolon in
-    sym (only_one codes₀ args.n start.requires (eqb-true _ _ if1.true-raw) ∙ rw if2.false-raw)
+pub returns-in_default : goal.returns-in_default
+returns-in_default c = only_none c.args.codes.now (omega arith)
 
-pub bounds-codes-0-then-two : goal.bounds-codes-0-then-two
-bounds-codes-0-then-two c = omega (flags, c.requires)
+pub returns-in_default-2 : goal.returns-in_default-2
+returns-in_default-2 c =
+    let e : get_or c.args.codes.now 0 0 ≢ 29 = search rules in
+    let f : get_or c.args.codes.now 0 0 ≢ 2 = search rules in
+    rw (only_one c.args.codes.now (omega arith) (omega arith), ne_eqb _ 29 e, ne_eqb _ 2 f)
 
-pub bounds-codes-1 : goal.bounds-codes-1
-bounds-codes-1 c = omega (flags, c.requires)
+pub returns-in_default-3 : goal.returns-in_default-3
+returns-in_default-3 c =
+    let e : get_or c.args.codes.now 0 0 ≡ 2 = search rules in
+    let f : get_or c.args.codes.now 1 0 ≢ 29 = search rules in
+    rw (only_two c.args.codes.now (omega arith) (omega arith), e, ne_eqb _ 29 f)
 
-pub returns-then-comma : goal.returns-then-comma
-returns-then-comma c =
-    let start = c in
-    let args = start.args in
-    let codes₀ = args.codes.now in
-    let if3 = c.if-two in
-    let if4 = c.if-comma in
-    sym (only_two codes₀ args.n start.requires (eqb-true _ _ if3.true-raw) ∙ rw if4.true-raw)
+pub returns-in_default-4 : goal.returns-in_default-4
+returns-in_default-4 c =
+    let e : get_or c.args.codes.now 0 0 ≢ 2 = search rules in
+    rw (only_two c.args.codes.now (omega arith) (omega arith), ne_eqb _ 2 e)
 
-pub returns-then-two : goal.returns-then-two
-returns-then-two c =
-    let start = c in
-    let args = start.args in
-    let codes₀ = args.codes.now in
-    let if3 = c.if-two in
-    let if4 = c.if-comma in
-    sym (only_two codes₀ args.n start.requires (eqb-true _ _ if3.true-raw) ∙ rw if4.false-raw)
-
-pub returns : goal.returns
-returns c =
-    let start = c in
-    let args = start.args in
-    let codes₀ = args.codes.now in
-    let if1 = c.if-one in
-    let if3 = c.if-two in
-    sym (only_other codes₀ args.n start.requires (eqb-false _ _ if1.false-raw) (eqb-false _ _ if3.false-raw))
+pub returns-in_default-5 : goal.returns-in_default-5
+returns-in_default-5 c = only_many c.args.codes.now (omega arith)

@@ -1,19 +1,35 @@
--- `past_token`: where a token taken after the parser's peek leaves its cursor.
-use mathlib.Core.Path.{ap}
-use mathlib.Core.List.{[]}
+-- `past_token`: one row further, if there is one.
+use native.Mathlib.Omega.{arith}
+use Rattle.basics.proofs.Flags.{flags}
+use Rattle.basics.proofs.TokenRows.{tokens_length}
 use Rattle.definitions.specs.Token.{tokens_of}
-use Rattle.machine.specs.Machine.{Machine}
-use Rattle.parser.specs.View.{view}
-use Rattle.source.proofs.Moves.{token_goes}
+use Rattle.source.proofs.Moves.{token_goes, one_further, no_further}
 use Rattle.source.proofs.cursor.past_token.Goals as goal
 
-pub returns : goal.returns
-returns c =
-    let args = c.args in
-    let ts = tokens_of args.tokens.now in
-    let standing = c.standing in
-    let peek = c.peek in
-    let next_token = c.next_token-s in
-    let all = token_goes ts (view standing.result [] [] [] []) (view peek.result [] [] [] []) (view next_token.result [] [] [] []) args.at.0
-    (ap (λ (m : Machine). m.cursor) (standing.ensures [] [] [] [])) (peek.ensures.becomes [] [] [] []) (next_token.ensures.becomes [] [] [] []) in
-    record { result_value = all.0; tokens_value = all.1 }
+pub returns-then-here-tokens-clause-result_value : goal.returns-then-here-tokens-clause-result_value
+returns-then-here-tokens-clause-result_value c =
+    let tokens = c.args.tokens.now in
+    let here = c.past_trivia-here in
+    (token_goes (tokens_of tokens) _ _ _ here.ensures.result_value here.ensures.tokens_value
+    (one_further (tokens_of tokens) _ (omega (flags, tokens_length tokens, c.if-here-tokens.true)))).0
+
+pub returns-then-here-tokens-clause-tokens_value : goal.returns-then-here-tokens-clause-tokens_value
+returns-then-here-tokens-clause-tokens_value c =
+    let tokens = c.args.tokens.now in
+    let here = c.past_trivia-here in
+    (token_goes (tokens_of tokens) _ _ _ here.ensures.result_value here.ensures.tokens_value
+    (one_further (tokens_of tokens) _ (omega (flags, tokens_length tokens, c.if-here-tokens.true)))).1
+
+pub returns-else-here-tokens-clause-result_value : goal.returns-else-here-tokens-clause-result_value
+returns-else-here-tokens-clause-result_value c =
+    let tokens = c.args.tokens.now in
+    let here = c.past_trivia-here in
+    (token_goes (tokens_of tokens) _ _ _ here.ensures.result_value here.ensures.tokens_value
+    (no_further (tokens_of tokens) _ (omega (flags, tokens_length tokens, c.if-here-tokens.false)))).0
+
+pub returns-else-here-tokens-clause-tokens_value : goal.returns-else-here-tokens-clause-tokens_value
+returns-else-here-tokens-clause-tokens_value c =
+    let tokens = c.args.tokens.now in
+    let here = c.past_trivia-here in
+    (token_goes (tokens_of tokens) _ _ _ here.ensures.result_value here.ensures.tokens_value
+    (no_further (tokens_of tokens) _ (omega (flags, tokens_length tokens, c.if-here-tokens.false)))).1

@@ -1,0 +1,29 @@
+-- What `run_entry` leaves, by the machine that the entry's whole run comes to.
+use Rattle.std.specs.Prelude.{ℕ, List, ◌≡◌}
+use Rattle.std.specs.Borrow.{Bor, MutBor}
+use denote.Triple.Both.{Both}
+use Rattle.definitions.specs.Layout.{MOST_OPEN_CALLS}
+use Rattle.definitions.specs.Token.{tokens_of}
+use Rattle.definitions.specs.Grammar.{Entry, whole}
+use Rattle.machine.specs.Machine.{Machine}
+use Rattle.machine.specs.Walk.{walk_prog, unlabelled}
+use Rattle.machine.specs.Outcome.{fresh}
+use Rattle.parser.specs.View.{refusal_of, place_of}
+use Rattle.grammar.specs.declared.entry.Run.{Run}
+
+-- the machine after the run of an entry over these token numbers, in these buffers
+abbrev pub run_of : Entry → List ℕ → List ℕ → List ℕ → List ℕ → Machine
+run_of e tokens events reports pool =
+    (walk_prog MOST_OPEN_CALLS (tokens_of tokens) unlabelled (whole e) (fresh events reports pool)).on
+
+-- what is left is that machine: the answer, and the buffers after the call
+pub record Leaves (m : Machine) (r : Run) (e t l : List ℕ) : Type 0 where
+  pub events : record { count = r.events_written; numbers = e } ≡ m.events
+  pub reports : record { count = r.reports_written; numbers = t } ≡ m.reports
+  pub pool : record { count = r.pool_written; numbers = l } ≡ m.pool
+  pub refusal : refusal_of r.refused ≡ m.refusal
+  pub place : place_of r.refused ≡ m.place
+
+abbrev pub Ran : Entry → Both (Bor (List ℕ)) (Bor (List ℕ)) → Both (MutBor (List ℕ)) (MutBor (List ℕ)) → Both (MutBor (List ℕ)) (MutBor (List ℕ)) → Both (MutBor (List ℕ)) (MutBor (List ℕ)) → Run → Type 0
+Ran e tokens events reports pool r =
+    Leaves (run_of e tokens.entry.now events.entry.now reports.entry.now pool.entry.now) r events.exit.now reports.exit.now pool.exit.now

@@ -1,0 +1,12 @@
+-- `wrap_unless_at_end`: nothing at the end, or a token in a ParseError.
+use Rattle.std.proofs.Common.{arith}
+use Rattle.parser.proofs.Ways.{walks, yes_case, no_case, seq, stay, node}
+use Rattle.parser.proofs.Parser.wrap_unless_at_end.Goals as goal
+
+pub returns-then-not-at_end-clause-walks : goal.returns-then-not-at_end-clause-walks
+returns-then-not-at_end-clause-walks c = walks (λ ask b.
+    no_case (c.at_end.ensures.walks.way ask b) c.if-not-at_end.true
+    (node (omega arith) c.start-m.ensures.marker c.start-m.ensures.becomes (seq (c.bump.ensures.walks.way ask b) stay) c.complete.ensures.becomes))
+
+pub returns-else-not-at_end-clause-walks : goal.returns-else-not-at_end-clause-walks
+returns-else-not-at_end-clause-walks c = walks (λ ask b. yes_case (c.at_end.ensures.walks.way ask b) c.if-not-at_end.false stay)
