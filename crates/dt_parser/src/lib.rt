@@ -5,37 +5,34 @@ mod entrypoint;
 pub mod query;
 pub mod text;
 
-ghost use Rattle.std.specs.Prelude.{◌≡◌, ℕ, List};
+ghost use Rattle.std.specs.Prelude.{◌≡◌};
 ghost use Rattle.definitions.specs.Refusal.{accepted};
 ghost use Rattle.definitions.specs.RowCauses.{check_input};
 ghost use Rattle.definitions.specs.Call as Call;
-ghost use Rattle.parser.specs.View.{view};
 ghost use Rattle.call.specs.Result.{at_entry, at_exit, held, SameSlices, result_of};
-ghost use Rattle.call.specs.Ended.{run_of};
-ghost use Rattle.dt_parser.specs.Asked.{parse_of};
+ghost use Rattle.dt_parser.specs.Asked.{ended_as, parse_of};
 
 use crate::entrypoint::{entry_of, root_kind};
 use call::check_input::check;
 use call::lent::{Buffers, Input};
 use call::outcome::{Filled, Refusal, outcome};
 use call::{Answer, refused};
-use grammar::entry::{Entrypoint, run_entry};
+use grammar::entry::{Entrypoint, Run, run_entry};
 use layout::refusal::UNKNOWN_ENTRY;
-use parser::State;
 
 // How far a run came, or why it stopped.
-fn ended(s: State) -> Result<Filled, Refusal>
-    ensures { (codes events reports pool : List ℕ) → result ≡ run_of (view s codes events reports pool) }
+fn ended(run: Run) -> Result<Filled, Refusal>
+    ensures { result ≡ ended_as run }
 {
-    match s.refusal {
-        0 => Ok(Filled {
-            events: s.events_written,
-            reports: s.reports_written,
-            pool: s.pool_written,
+    match run.refused {
+        None => Ok(Filled {
+            events: run.events_written,
+            reports: run.reports_written,
+            pool: run.pool_written,
         }),
-        number => Err(Refusal {
-            number,
-            place: s.place.0,
+        Some(refused) => Err(Refusal {
+            number: refused.cause.number(),
+            place: refused.place.0,
         }),
     }
 }
@@ -46,14 +43,14 @@ fn parse(e: Entrypoint, input: Input<'_>, buffers: &mut Buffers<'_>) -> Answer
     ensures same { SameSlices buffers.old buffers.new }
     ensures parsed { result_of result (held buffers.new) ≡ parse_of e input.entry (held buffers.old) }
 {
-    let p = run_entry(
+    let run = run_entry(
         input.tokens,
         buffers.events,
         buffers.reports,
         buffers.pool,
         e,
     );
-    outcome(root_kind(e), ended(p.s), input, buffers)
+    outcome(root_kind(e), ended(run), input, buffers)
 }
 
 // The whole call.

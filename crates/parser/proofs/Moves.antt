@@ -1,7 +1,7 @@
 -- What each step of the literal machine comes to: expectations, the cursor's moves, tests, tokens and names taken.
 use Rattle.std.proofs.Common.{ℕ, ◌+◌, ◌-◌, ◌/◌, ◌≤◌, ◌<◌, ◌≡◌, refl, sym, ◌∙◌, ap, Bool, true, false, cond, not, ◌||◌, le_refl, List, [], ◌∷◌, length, drop, eqb, ltb, leb}
 use Rattle.std.specs.List.{list_any}
-use Rattle.std.proofs.lemmas.Bool.{lt-ltb, le-ltb, le-leb, eq-eqb, ne_eqb}
+use Rattle.std.proofs.lemmas.Bool.{lt-ltb, lt-leb, le-ltb, le-leb, eq-eqb, ne_eqb}
 use Rattle.basics.proofs.Tests.{eqb_swap}
 use native.Mathlib.Omega.{arith}
 use Rattle.basics.specs.Word.{low}
@@ -61,6 +61,20 @@ module _ (k : ℕ) (x : Pending) where
       (ap (λ (c : Bool). cond c (expect_kind k x) else) (le-ltb k KIND_CODES h)
       ∙ ap (λ (c : Bool). cond c other x) (le-leb FIRST_OTHER k i)
       ∙ ap (λ (c : Bool). cond c (expect_other k x) x) (lt-ltb k (FIRST_OTHER + OTHER_CODES) j))
+
+  -- no expectation
+  pub adds_none : KIND_CODES ≤ k → k < FIRST_OTHER → x ≡ M.expect k x
+  unfolding M.expect
+  adds_none h i =
+      sym (ap (λ (c : Bool). cond c (expect_kind k x) else) (le-ltb k KIND_CODES h) ∙ ap (λ (c : Bool). cond c other x) (lt-leb FIRST_OTHER k i))
+
+  pub adds_past : KIND_CODES ≤ k → FIRST_OTHER ≤ k → FIRST_OTHER + OTHER_CODES ≤ k → x ≡ M.expect k x
+  unfolding M.expect
+  adds_past h i j =
+      sym
+      (ap (λ (c : Bool). cond c (expect_kind k x) else) (le-ltb k KIND_CODES h)
+      ∙ ap (λ (c : Bool). cond c other x) (le-leb FIRST_OTHER k i)
+      ∙ ap (λ (c : Bool). cond c (expect_other k x) x) (le-ltb k (FIRST_OTHER + OTHER_CODES) j))
 
 -- ---------------------------------------------------------------- the cursor
 

@@ -19,7 +19,14 @@ impl<'a> Parser<'a> {
     pub fn add_expected(&mut self, expected: Expected)
         ensures { Walks (act (add_expected (expected_number expected))) self.old yes self.new }
     {
-        self.pending.add(expected);
+        self.add_code(expected.number());
+    }
+
+    // The same by number: one that is no expectation is not pushed.
+    pub fn add_code(&mut self, code: u8)
+        ensures { Walks (act (add_expected code)) self.old yes self.new }
+    {
+        self.pending.add(code);
     }
 
     // `check(matcher).silent().at()`

@@ -3,12 +3,11 @@
 // are set.
 ghost use Rattle.std.specs.Prelude.{◌≡◌, ◌≤◌};
 ghost use Rattle.definitions.specs.Layout.{FIRST_OTHER};
-ghost use Rattle.layout.specs.Numbers.{expected_number};
 ghost use Rattle.machine.specs.Machine.{none_pending, expect_kind, expect_other, expect, how_many};
 ghost use Rattle.parser.specs.View.{pending_of};
 
 use arrayvec::ArrayVec;
-use layout::expected::{Expected, FIRST_OTHER, KIND_CODES, PAST_OTHERS};
+use layout::expected::{FIRST_OTHER, KIND_CODES, PAST_OTHERS};
 use layout::limit::MOST_PENDING;
 use layout::word_set;
 
@@ -60,15 +59,16 @@ impl Pending {
         }
     }
 
-    // An expectation that is pending already is not pushed again.
-    pub fn add(&mut self, expected: Expected)
-        ensures { pending_of self.new ≡ expect (expected_number expected) (pending_of self.old) }
+    // An expectation that is pending already is not pushed again. A number that is no expectation is not pushed.
+    pub fn add(&mut self, code: u8)
+        ensures { pending_of self.new ≡ expect code (pending_of self.old) }
     {
-        let code = expected.number();
         if code < KIND_CODES {
             self.add_kind(code);
-        } else if FIRST_OTHER <= code && code < PAST_OTHERS {
-            self.add_other(code);
+        } else if FIRST_OTHER <= code {
+            if code < PAST_OTHERS {
+                self.add_other(code);
+            }
         }
     }
 

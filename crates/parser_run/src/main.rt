@@ -3,38 +3,71 @@
 #![tactic(auto)]
 
 use cases::show::Out;
-use layout::token_kind;
+use layout::token_kind::TokenKind;
+use layout::{ByteOffset, TokenIndex};
 use parser::matcher::Matcher;
-use parser::{Parser, State};
+use parser::pending::Pending;
+use parser::{Parser, Refused};
 use std::io;
 use std::io::{BufWriter, Write};
 
 // `a;`: an Ident and a Semicolon of one byte each.
 const TOKENS: [u32; 4] = [27, 1, 29, 1];
 
-fn say(out: &mut Out, s: State) -> io::Result<()> {
-    writeln!(out, ": refusal {}, place {}", s.refusal, s.place.0)
+fn parser<'a>(
+    events: &'a mut [u32],
+    reports: &'a mut [u32],
+    pool: &'a mut [u32],
+) -> Parser<'a> {
+    Parser {
+        tokens: &TOKENS,
+        events,
+        events_written: 0,
+        reports,
+        reports_written: 0,
+        pool,
+        pool_written: 0,
+        cursor: TokenIndex(0),
+        byte: ByteOffset(0),
+        mark: TokenIndex(0),
+        mark_byte: ByteOffset(0),
+        pending: Pending::none(),
+        refused: None,
+    }
+}
+
+// 0 and 0 where nothing was refused.
+fn say(out: &mut Out, refused: Option<Refused>) -> io::Result<()> {
+    let (number, place) = refused.map_or((0, 0), |r| (r.cause.number(), r.place.0));
+    writeln!(out, ": refusal {number}, place {place}")
 }
 
 // So many numbers pushed after a token, from 0 on and after 255 from 0 again: how many are pending, and how many of
 // them are different.
 fn expectations(out: &mut Out, n: usize) -> io::Result<()> {
-    let taken = Parser::new().bump(&TOKENS, &mut [0; 3]);
-    let p = (0..n).fold(taken, |p, i| p.add_expected((i % 256) as u8));
-    let pending = p.s.pending.count;
-    let different = p.s.pending.different();
+    let (mut events, mut reports, mut pool) = ([0; 3], [0; 0], [0; 0]);
+    let mut p = parser(&mut events, &mut reports, &mut pool);
+    p.bump();
+    for i in 0..n {
+        p.add_code((i % 256) as u8);
+    }
+    let pending = p.pending.codes.len();
+    let different = p.pending.different();
     write!(
         out,
         "numbers pushed {n}, pending {pending}, different {different}"
     )?;
-    say(out, p.s)
+    say(out, p.refused)
 }
 
 // A marker and a token: two events, of three numbers each.
 fn marker_and_token(out: &mut Out, events: &mut [u32]) -> io::Result<()> {
-    let p = Parser::new().start(events).bump(&TOKENS, events);
+    let (mut reports, mut pool) = ([0; 0], [0; 0]);
     write!(out, "event numbers {}", events.len())?;
-    say(out, p.s)
+    let mut p = parser(events, &mut reports, &mut pool);
+    p.start();
+    p.bump();
+    say(out, p.refused)
 }
 
 // A token, and a report with two expectations: two events, a row of nine numbers, two codes.
@@ -44,13 +77,13 @@ fn token_and_report(
     reports: &mut [u32],
     pool: &mut [u32],
 ) -> io::Result<()> {
-    let taken = Parser::new().bump(&TOKENS, events);
-    let m = Matcher::Either(token_kind::EQUALS, token_kind::LCURLY);
-    let e = taken.expect(&TOKENS, events, reports, pool, m);
     write!(out, "event numbers {}", events.len())?;
     write!(out, ", report numbers {}", reports.len())?;
     write!(out, ", pool numbers {}", pool.len())?;
-    say(out, e.p.s)
+    let mut p = parser(events, reports, pool);
+    p.bump();
+    p.expect(Matcher::Either(TokenKind::Equals, TokenKind::LCurly));
+    say(out, p.refused)
 }
 
 fn main(rt: HostRuntime) -> io::Result<()> {

@@ -47,7 +47,7 @@ fn edges(out: &mut Out) -> io::Result<()> {
     along(out, "error tokens", &[64, 1, 0, 1, 74, 1])?;
     along(out, "trivia", &[0, 1, 1, 4, 3, 2])?;
     along(out, "nothing", &[])?;
-    seen_from(out, &[27, 1], PAST_THE_END)
+    seen_from(out, &[27, 1], PAST_THE_END.0)
 }
 
 fn main(rt: HostRuntime) -> io::Result<()> {

@@ -5,7 +5,7 @@ use Rattle.machine.specs.Machine as M
 use Rattle.machine.specs.Walk.{said, perform}
 use Rattle.parser.specs.View.{view, tokens_left}
 use Rattle.parser.proofs.Ways.{acts}
-use Rattle.parser.proofs.Parser.add_expected.Goals as goal
+use Rattle.parser.proofs.Parser.add_code.Goals as goal
 
 pub returns : goal.returns
 unfolding perform M.expect_code tokens_left
