@@ -1,9 +1,8 @@
 -- What a run leaves as the machine that `call` knows.
 use mathlib.Core.Path.{◌≡◌, refl}
-use mathlib.Core.Bool.{cond}
 use mathlib.Core.List.{List}
 use Prim.Native.Nat.{ℕ}
-use Rattle.std.specs.Prelude.{Option, None, Some, Ok, Err}
+use Rattle.std.specs.Prelude.{Option, None, Some}
 use Rattle.machine.specs.Machine.{Machine}
 use Rattle.parser.specs.declared.Refused.{Refused}
 use Rattle.parser.specs.View.{refusal_of, place_of}

@@ -3,14 +3,14 @@
 use Prim.Native.Nat.{ℕ, zero, suc, ◌<◌}
 use mathlib.Core.Path.{◌≡◌, refl, ap, ◌∙◌}
 use mathlib.Core.Bool.{Bool}
-use mathlib.Core.List.{List, [], ◌∷◌}
+use mathlib.Core.List.{List}
 use mathlib.Core.Logic.{◌⊎◌, inl, inr}
 use native.Mathlib.Omega.{arith}
 use Rattle.std.specs.Prelude.{Option, None}
 use Rattle.definitions.specs.TokenKind as K
 use Rattle.definitions.specs.Token.{Token}
 use Rattle.definitions.specs.Skeleton.{Span}
-use Rattle.definitions.specs.Prog.{Ans, no, yes, also, again, Rule, Prog, ◌⨟◌, case}
+use Rattle.definitions.specs.Prog.{Ans, no, yes, also, Rule, Prog, ◌⨟◌, case}
 use Rattle.definitions.specs.Check.{tell, when◌then◌else◌, of_kind, silent}
 use Rattle.definitions.specs.Grammar.{dt_expr, eat_cell_body}
 use Rattle.machine.specs.Machine.{Machine}

@@ -97,7 +97,11 @@ fn cell_rest(p: &mut Parser, allowed: usize, until_end: bool) -> bool
     if p.at(Matcher::Kind(TokenKind::RAngle)) {
         return false;
     }
-    p.error(Message::Expected, Some(Hint::MissingParentheses), Bump::YesWrapErr);
+    p.error(
+        Message::Expected,
+        Some(Hint::MissingParentheses),
+        Bump::YesWrapErr,
+    );
     true
 }
 

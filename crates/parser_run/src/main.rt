@@ -14,11 +14,7 @@ use std::io::{BufWriter, Write};
 // `a;`: an Ident and a Semicolon of one byte each.
 const TOKENS: [u32; 4] = [27, 1, 29, 1];
 
-fn parser<'a>(
-    events: &'a mut [u32],
-    reports: &'a mut [u32],
-    pool: &'a mut [u32],
-) -> Parser<'a> {
+fn parser<'a>(events: &'a mut [u32], reports: &'a mut [u32], pool: &'a mut [u32]) -> Parser<'a> {
     Parser {
         tokens: &TOKENS,
         events,

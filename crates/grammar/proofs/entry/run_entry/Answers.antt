@@ -1,6 +1,6 @@
 -- `run_entry`: the entry and what it leaves over, from a fresh parser.
 use Rattle.std.proofs.Common.{rules}
-use mathlib.Core.Path.{◌≡◌, sym, ap, ◌∙◌}
+use mathlib.Core.Path.{ap, ◌∙◌}
 use Rattle.definitions.specs.Grammar.{whole}
 use Rattle.machine.specs.Machine.{Machine, Pending, with_pending}
 use Rattle.machine.specs.Walk.{walk_prog, walk, walk_rule, unlabelled}

@@ -1,5 +1,4 @@
 -- `past_token`: one row further, if there is one.
-use native.Mathlib.Omega.{arith}
 use Rattle.basics.proofs.Flags.{flags}
 use Rattle.basics.proofs.TokenRows.{tokens_length}
 use Rattle.definitions.specs.Token.{tokens_of}
