@@ -15,24 +15,24 @@ def flags(sources):
     ]
 
 
-def tables(sources):
-    """Arrays of functions, and values that are functions."""
+def lines_with(sources, pattern):
+    """The lines of code in which `pattern` is found."""
     return [
         Place(file.crate, file.path, number, line.strip())
         for file in sources.files
         for number, line in enumerate(file.code.split("\n"), 1)
-        if re.search(r"(?<!^)[\[:(&< ]fn\(", line)
+        if re.search(pattern, line)
     ]
+
+
+def tables(sources):
+    """Arrays of functions, and values that are functions."""
+    return lines_with(sources, r"(?<!^)[\[:(&< ]fn\(")
 
 
 def closures(sources):
     """Closures, and parameters that are one."""
-    return [
-        Place(file.crate, file.path, number, line.strip())
-        for file in sources.files
-        for number, line in enumerate(file.code.split("\n"), 1)
-        if re.search(r"impl Fn|dyn \w|\bFn(?:Mut|Once)?\(|[(=,] ?(?:move )?\|[\w, &:]*\| ", line)
-    ]
+    return lines_with(sources, r"impl Fn|dyn \w|\bFn(?:Mut|Once)?\(|[(=,] ?(?:move )?\|[\w, &:]*\| ")
 
 
 POINTS = [
