@@ -8,7 +8,7 @@ use Rattle.definitions.specs.Grammar.{Entry, whole}
 use Rattle.machine.specs.Machine.{Machine}
 use Rattle.machine.specs.Walk.{walk_prog, unlabelled}
 use Rattle.machine.specs.Outcome.{fresh}
-use Rattle.parser.specs.View.{refusal_of, place_of}
+use Rattle.parser.specs.View.{pending_of, refusal_of, place_of}
 use Rattle.grammar.specs.declared.entry.Run.{Run}
 
 -- the machine after the run of an entry over these token numbers, in these buffers
@@ -16,8 +16,13 @@ abbrev pub run_of : Entry → List ℕ → List ℕ → List ℕ → List ℕ �
 run_of e tokens events reports pool =
     (walk_prog MOST_OPEN_CALLS (tokens_of tokens) unlabelled (whole e) (fresh events reports pool)).on
 
--- what is left is that machine: the answer, and the buffers after the call
+-- what is left is that machine, with all that it has: the answer, and the buffers after the call
 pub record Leaves (m : Machine) (r : Run) (e t l : List ℕ) : Type 0 where
+  pub cursor : r.cursor.0 ≡ m.cursor
+  pub byte : r.byte.0 ≡ m.byte
+  pub mark : r.mark.0 ≡ m.mark
+  pub mark_byte : r.mark_byte.0 ≡ m.mark_byte
+  pub pending : pending_of r.pending ≡ m.pending
   pub events : record { count = r.events_written; numbers = e } ≡ m.events
   pub reports : record { count = r.reports_written; numbers = t } ≡ m.reports
   pub pool : record { count = r.pool_written; numbers = l } ≡ m.pool

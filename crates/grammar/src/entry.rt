@@ -24,12 +24,18 @@ pub enum Entrypoint {
     Cells,
 }
 
-// What a run leaves: how many numbers of each buffer are written, and why it stopped, if it did.
+// What a run leaves beside the lent buffers: how many numbers of each are written, where the parser stands, what is
+// pending, and why it stopped, if it did.
 #[derive(Clone, Copy)]
 pub struct Run {
     pub events_written: usize,
     pub reports_written: usize,
     pub pool_written: usize,
+    pub cursor: TokenIndex,
+    pub byte: ByteOffset,
+    pub mark: TokenIndex,
+    pub mark_byte: ByteOffset,
+    pub pending: Pending,
     pub refused: Option<Refused>,
 }
 
@@ -102,6 +108,11 @@ pub fn run_entry(
         events_written: p.events_written,
         reports_written: p.reports_written,
         pool_written: p.pool_written,
+        cursor: p.cursor,
+        byte: p.byte,
+        mark: p.mark,
+        mark_byte: p.mark_byte,
+        pending: p.pending,
         refused: p.refused,
     }
 }

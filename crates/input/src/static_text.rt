@@ -7,7 +7,7 @@ use layout::token_kind;
 
 // The spelling of a kind that has one.
 #[tactic(auto, unfolding(crate::specs::Checks::spelling))]
-fn static_text(kind: u8) -> Option<&'static [u8]>
+pub fn static_text(kind: u8) -> Option<&'static [u8]>
     ensures { MatchOption result (spelling static_texts kind ≡ None)
         (λ text. spelling static_texts kind ≡ Some text.now) }
 {

@@ -5,7 +5,7 @@
 #![tactic(auto)]
 
 pub mod callback;
-mod table;
+pub mod table;
 
 ghost use Rattle.std.specs.Prelude.{◌≡◌, ◌<◌};
 ghost use Rattle.lex_table.specs.Table.{table as the_table, row_after, kind_of_row};
@@ -19,11 +19,13 @@ pub const FIRST_SILENT: usize = 5376;
 pub const FIRST_FINAL: usize = 24576;
 
 // The callbacks, in the order of the rows of their states.
-const BLOCK_COMMENT: usize = 32768;
+pub const BLOCK_COMMENT: usize = 32768;
 
-const STRING: usize = 33024;
+pub const STRING: usize = 33024;
 
-const CHAR: usize = 33280;
+pub const CHAR: usize = 33280;
+
+pub const BYTESTRING: usize = 33536;
 
 pub const DEAD: usize = 33792;
 

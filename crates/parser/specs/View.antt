@@ -1,6 +1,6 @@
 -- The parser as the literal machine of the crate `machine` sees it, and what the contracts of the grammar's functions say
 -- of it before and after a call.
-use Rattle.std.specs.Prelude.{ℕ, ◌-◌, ◌/◌, ◌≤◌, List, [], ◌∷◌, ◌≡◌, Option, Some, None, length, drop}
+use Rattle.std.specs.Prelude.{ℕ, ◌-◌, ◌/◌, ◌≤◌, List, [], ◌∷◌, ◌≡◌, Option, Some, None, length, take, drop}
 use Rattle.definitions.specs.Layout.{TOKEN_ROW}
 use Rattle.definitions.specs.Errors as E
 use Rattle.definitions.specs.NodeKind.{NO_NODE}
@@ -28,7 +28,11 @@ use Rattle.parser.specs.declared.matcher.Matcher.TheVariants as Of
 
 -- the pending expectations
 abbrev pub pending_of : CodePending → Pending
-pending_of x = record { codes = x.codes.items; kinds = x.kinds; others = x.others }
+pending_of x = record { codes = take x.count x.codes; kinds = x.kinds; others = x.others }
+
+-- with a code that arrives
+abbrev pub with_arrived : ℕ → Pending → Pending
+with_arrived k x = record { codes = M.arrived k x.codes; kinds = x.kinds; others = x.others }
 
 -- the first refusal and its place, or 0 and 0
 abbrev pub refusal_of : Option Refused → ℕ

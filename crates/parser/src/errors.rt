@@ -68,7 +68,7 @@ fn codes_of(message: Message, pending: &Pending) -> &[u8]
     ensures value { result.now ≡ pool_of (message_number message) (pending_of pending.now).codes }
 {
     if message == Message::Expected {
-        pending.codes.as_slice()
+        pending.as_slice()
     } else {
         &[]
     }
@@ -103,7 +103,7 @@ impl<'a> Parser<'a> {
                 end: self.byte,
             };
         }
-        if ends_statement(self.pending.codes.as_slice()) {
+        if ends_statement(self.pending.as_slice()) {
             return TextRange {
                 start: self.mark_byte,
                 end: ByteOffset(self.mark_byte.0.wrapping_add(1)),

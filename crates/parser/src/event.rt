@@ -38,26 +38,40 @@ impl<'a> Parser<'a> {
         self.cursor = PAST_THE_END;
     }
 
-    // An event, if it fits.
-    pub fn push_row(&mut self, tag: EventTag, argument: u32)
-        ensures { Becomes (push_row_machine (tag_number tag) argument) self.old self.new }
+    // An event with any number for its tag, if it fits.
+    pub fn push_row_numbers(&mut self, tag: u32, argument: u32)
+        ensures { Becomes (push_row_machine tag argument) self.old self.new }
     {
         let index = self.events_written;
         if fits(self.events.len(), index, EVENT_ROW) {
-            put_row(self.events, index, [tag.number(), argument, 0]);
+            put_row(self.events, index, [tag, argument, 0]);
             self.events_written = index + EVENT_ROW;
         } else {
             self.refuse(Refusal::NoEventRoom);
         }
     }
 
+    // The same, but nothing is pushed once something was refused.
+    pub fn push_event_numbers(&mut self, tag: u32, argument: u32)
+        ensures { Becomes (push tag argument) self.old self.new }
+    {
+        if self.refused.is_none() {
+            self.push_row_numbers(tag, argument);
+        }
+    }
+
+    // An event, if it fits.
+    pub fn push_row(&mut self, tag: EventTag, argument: u32)
+        ensures { Becomes (push_row_machine (tag_number tag) argument) self.old self.new }
+    {
+        self.push_row_numbers(tag.number(), argument);
+    }
+
     // Nothing is pushed once something was refused.
     pub fn push_event(&mut self, tag: EventTag, argument: u32)
         ensures { Becomes (push (tag_number tag) argument) self.old self.new }
     {
-        if self.refused.is_none() {
-            self.push_row(tag, argument);
-        }
+        self.push_event_numbers(tag.number(), argument);
     }
 
     // Takes the next token that is not trivia; nothing at the end.

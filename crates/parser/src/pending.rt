@@ -4,16 +4,17 @@
 ghost use Rattle.std.specs.Prelude.{◌≡◌, ◌≤◌};
 ghost use Rattle.definitions.specs.Layout.{FIRST_OTHER};
 ghost use Rattle.machine.specs.Machine.{none_pending, expect_kind, expect_other, expect, how_many};
-ghost use Rattle.parser.specs.View.{pending_of};
+ghost use Rattle.parser.specs.View.{pending_of, with_arrived};
 
-use arrayvec::ArrayVec;
 use layout::expected::{FIRST_OTHER, KIND_CODES, PAST_OTHERS};
-use layout::limit::MOST_PENDING;
+use layout::limit::{Codes, MOST_PENDING};
 use layout::word_set;
 
-#[derive(Drop)]
+#[derive(Clone, Copy)]
 pub struct Pending {
-    pub codes: ArrayVec<u8, MOST_PENDING>,
+    // How many there are, and their codes; past them, codes that no longer count.
+    pub count: usize,
+    pub codes: Codes,
     // The kinds, 0 to 60, and the others, from 101 on.
     pub kinds: u64,
     pub others: u64,
@@ -24,7 +25,8 @@ impl Pending {
         ensures { pending_of result ≡ none_pending }
     {
         Pending {
-            codes: ArrayVec::new(),
+            count: 0,
+            codes: [0; MOST_PENDING],
             kinds: 0,
             others: 0,
         }
@@ -33,17 +35,33 @@ impl Pending {
     pub fn clear(&mut self)
         ensures { pending_of self.new ≡ none_pending }
     {
-        self.codes.clear();
+        self.count = 0;
         self.kinds = 0;
         self.others = 0;
+    }
+
+    // The codes that are pending.
+    pub fn as_slice(&self) -> &[u8]
+        ensures { result.now ≡ (pending_of self.now).codes }
+    {
+        &self.codes[..self.count.min(MOST_PENDING)]
+    }
+
+    // A code arrives. There is always room (crates/pending).
+    fn push(&mut self, code: u8)
+        ensures { pending_of self.new ≡ with_arrived code (pending_of self.old) }
+    {
+        if self.count < MOST_PENDING {
+            self.codes[self.count] = code;
+            self.count += 1;
+        }
     }
 
     fn add_kind(&mut self, code: u8)
         ensures { pending_of self.new ≡ expect_kind code (pending_of self.old) }
     {
         if !word_set::contains(self.kinds, code) {
-            // There is always room (crates/pending).
-            let _ = self.codes.try_push(code);
+            self.push(code);
             self.kinds = word_set::with(self.kinds, code);
         }
     }
@@ -54,7 +72,7 @@ impl Pending {
     {
         let digit = code - FIRST_OTHER;
         if !word_set::contains(self.others, digit) {
-            let _ = self.codes.try_push(code);
+            self.push(code);
             self.others = word_set::with(self.others, digit);
         }
     }

@@ -47,7 +47,7 @@ fn expectations(out: &mut Out, n: usize) -> io::Result<()> {
     for i in 0..n {
         p.add_code((i % 256) as u8);
     }
-    let pending = p.pending.codes.len();
+    let pending = p.pending.count;
     let different = p.pending.different();
     write!(
         out,

@@ -1,16 +1,17 @@
 -- How far the parser's moves bring its cursor, and which tokens are left there.
-use Prim.Native.Nat.{ℕ, zero, suc, ◌+◌, ◌-◌, ◌≤◌, ◌<◌, zero-le}
+use Prim.Native.Nat.{ℕ, zero, suc, ◌+◌, ◌-◌, ◌≤◌, zero-le}
 use native.Mathlib.Omega.{arith}
 use mathlib.Core.Path.{◌≡◌, refl, sym, ◌∙◌, ap}
 use mathlib.Core.Bool.{Bool, true, false, cond}
 use mathlib.Core.List.{List, [], ◌∷◌}
-use lib.ListN.{length, drop, length-drop}
+use lib.ListN.{length, drop}
 use lib.Seq.{drop-nil}
 use Rattle.definitions.specs.Token.{Token, trivia, drop_trivia, past}
 use Rattle.basics.proofs.Tests.{cond-all}
 use Rattle.laws.proofs.Trivia.{drop_trivia_length}
-use Rattle.machine.specs.Machine.{Machine, passed, skip, with_cursor}
+use Rattle.machine.specs.Machine.{Machine, passed, skip, peek}
 use Rattle.token_rows.specs.Tokens.{kind_of}
+use Rattle.parser.specs.View.{take_first}
 use Rattle.source.specs.Cursor.{start_of, after_trivia, after_token}
 
 past_length : (l : List Token) → length (past l) ≤ length l
@@ -66,34 +67,30 @@ skip_goes (t ∷ ts) m = go (trivia t) (drop_trivia ts) (skip ts (passed t m)) (
     go false r p h e = omega arith
 
 -- where a peek from a place brings the cursor, and what is left there
--- past trivia, by what skipping it makes of any machine whose cursor stands here
-pub trivia_goes : (ts : List Token) (at n byte : ℕ) (m : Machine) → with_cursor n byte m ≡ skip (drop at ts) (with_cursor at 0 m) → (n ≡ after_trivia ts at) × (drop n ts ≡ drop_trivia (drop at ts))
-trivia_goes ts at n byte m e =
-    let c : n ≡ after_trivia ts at = ap (λ (x : Machine). x.cursor) e ∙ skip_goes (drop at ts) (with_cursor at 0 m) in
+pub peek_goes : (ts : List Token) (m p : Machine) (at : ℕ) → m.cursor ≡ at → p ≡ peek ts m → (p.cursor ≡ after_trivia ts at) × (drop p.cursor ts ≡ drop_trivia (drop at ts))
+unfolding peek
+peek_goes ts m p at a e =
+    let c : p.cursor ≡ after_trivia ts at = ap (λ (x : Machine). x.cursor) e ∙ skip_goes (drop m.cursor ts) m ∙ ap (after_trivia ts) a in
     (c, ap (λ (n : ℕ). drop n ts) c ∙ left_past_trivia ts at)
 
-some_taken : (l : List Token) → 0 < length l → length l - length (past l) ≡ 1
-some_taken [] h = absurd (omega (arith, h))
-some_taken (t ∷ ts) h = omega arith
+take_goes : (l : List Token) (m : Machine) → (take_first l m).cursor ≡ m.cursor + (length l - length (past l))
+unfolding take_first
+take_goes [] m = omega arith
+take_goes (t ∷ ts) m = omega arith
 
-none_taken : (l : List Token) → length l ≡ 0 → length l - length (past l) ≡ 0
-none_taken [] h = omega arith
-none_taken (t ∷ ts) h = absurd (omega (arith, h))
-
--- the same of a token taken after that
-pub token_goes : (ts : List Token) (at n r : ℕ) → n ≡ after_trivia ts at → drop n ts ≡ drop_trivia (drop at ts) → r ≡ n + (length (drop n ts) - length (past (drop n ts)))
-    → (r ≡ after_token ts at) × (drop r ts ≡ past (drop_trivia (drop at ts)))
-token_goes ts at n r a e f =
+-- the same of a token taken after a peek
+pub token_goes : (ts : List Token) (m p r : Machine) (at : ℕ) → m.cursor ≡ at → p ≡ peek ts m → r ≡ take_first (drop p.cursor ts) p
+    → (r.cursor ≡ after_token ts at) × (drop r.cursor ts ≡ past (drop_trivia (drop at ts)))
+token_goes ts m p r at a e f =
     let l = drop_trivia (drop at ts) in
-    let c : r ≡ after_token ts at =
-    f ∙ ap (λ (k : List Token). n + (length k - length (past k))) e ∙ ap (λ (n : ℕ). n + (length l - length (past l))) a ∙ join ts l at refl in
+    let g = peek_goes ts m p at a e in
+    let c : r.cursor ≡ after_token ts at =
+    ap (λ (x : Machine). x.cursor) f
+    ∙ take_goes (drop p.cursor ts) p
+    ∙ ap (λ (k : List Token). p.cursor + (length k - length (past k))) g.1
+    ∙ ap (λ (n : ℕ). n + (length l - length (past l))) g.0
+    ∙ join ts l at refl in
     (c, ap (λ (n : ℕ). drop n ts) c ∙ left_past_token ts at)
-
-pub one_further : (ts : List Token) (n : ℕ) → n < length ts → n + 1 ≡ n + (length (drop n ts) - length (past (drop n ts)))
-one_further ts n h = omega (arith, some_taken (drop n ts) (omega (arith, length-drop n ts, h)))
-
-pub no_further : (ts : List Token) (n : ℕ) → length ts ≤ n → n ≡ n + (length (drop n ts) - length (past (drop n ts)))
-no_further ts n h = omega (arith, none_taken (drop n ts) (omega (arith, length-drop n ts, h)))
 
 -- what is seen at the place past trivia is the first token that is none
 pub sees : (ts : List Token) (at n k : ℕ) → n ≡ after_trivia ts at → k ≡ kind_of (drop n ts) → k ≡ kind_of (drop_trivia (drop at ts))

@@ -1,11 +1,39 @@
-// Token indexes that a move of the cursor comes to.
+// Token indexes that the parser's own moves of its cursor come to.
 ghost use Rattle.std.specs.Prelude.{◌≡◌, drop};
 ghost use Rattle.definitions.specs.Token.{tokens_of, drop_trivia, past};
 ghost use Rattle.source.specs.Cursor.{after_trivia, after_token};
 
-use layout::TokenIndex;
-use layout::row::TOKEN_ROW;
-use token_rows::token::skip_trivia;
+use layout::{ByteOffset, TokenIndex};
+use parser::Parser;
+use parser::pending::Pending;
+
+// A parser that has taken nothing and whose cursor is here. Moves of the cursor write nothing.
+fn standing<'a>(
+    tokens: &'a [u32],
+    at: TokenIndex,
+    events: &'a mut [u32],
+    reports: &'a mut [u32],
+    pool: &'a mut [u32],
+) -> Parser<'a>
+    ensures rows { result.tokens ≡ tokens.entry }
+    ensures place { result.cursor ≡ at }
+{
+    Parser {
+        tokens,
+        events,
+        events_written: 0,
+        reports,
+        reports_written: 0,
+        pool,
+        pool_written: 0,
+        cursor: at,
+        byte: ByteOffset(0),
+        mark: TokenIndex(0),
+        mark_byte: ByteOffset(0),
+        pending: Pending::none(),
+        refused: None,
+    }
+}
 
 // The index of the first token from here on that is not trivia.
 pub fn past_trivia(tokens: &[u32], at: TokenIndex) -> TokenIndex
@@ -13,7 +41,9 @@ pub fn past_trivia(tokens: &[u32], at: TokenIndex) -> TokenIndex
     ensures tokens_value { drop result.0 (tokens_of tokens.now)
         ≡ drop_trivia (drop at.0 (tokens_of tokens.now)) }
 {
-    TokenIndex(skip_trivia(tokens, at.0, 0).at)
+    let mut p = standing(tokens, at, &mut [], &mut [], &mut []);
+    p.peek();
+    p.cursor
 }
 
 // The index after that token; at the end it stays.
@@ -22,10 +52,8 @@ pub fn past_token(tokens: &[u32], at: TokenIndex) -> TokenIndex
     ensures tokens_value { drop result.0 (tokens_of tokens.now)
         ≡ past (drop_trivia (drop at.0 (tokens_of tokens.now))) }
 {
-    let TokenIndex(here) = past_trivia(tokens, at);
-    if here < tokens.len() / TOKEN_ROW {
-        TokenIndex(here + 1)
-    } else {
-        TokenIndex(here)
-    }
+    let mut p = standing(tokens, at, &mut [], &mut [], &mut []);
+    p.peek();
+    p.next_token();
+    p.cursor
 }

@@ -19,6 +19,11 @@ returns c =
     let f = fresh c.args.events.now c.args.reports.now c.args.pool.now in
     let e = w.is ∙ ap (λ (x : Pending). (walk (walk_rule MOST_OPEN_CALLS ts) ts unlabelled (whole (entry_for c.args.entrypoint)) (with_pending x f)).on) c.none.ensures in
     record {
+      cursor = ap (λ (m : Machine). m.cursor) e;
+      byte = ap (λ (m : Machine). m.byte) e;
+      mark = ap (λ (m : Machine). m.mark) e;
+      mark_byte = ap (λ (m : Machine). m.mark_byte) e;
+      pending = ap (λ (m : Machine). m.pending) e;
       events = search (rules, ap (λ (m : Machine). m.events) e);
       reports = search (rules, ap (λ (m : Machine). m.reports) e);
       pool = search (rules, ap (λ (m : Machine). m.pool) e);

@@ -1,21 +1,11 @@
-use Rattle.std.proofs.Common.{refl, ◌∙◌}
-use Rattle.basics.proofs.Flags.{flags}
+-- `push_event`: the tag by its number.
+use Rattle.std.proofs.Common.{◌∙◌}
+use mathlib.Core.Path.{ap}
+use Rattle.machine.specs.Machine.{push}
 use Rattle.parser.specs.View.{view}
-use Rattle.parser.proofs.Stores.{quiet, push_open, push_refused}
 use Rattle.parser.proofs.Parser.push_event.Goals as goal
 
-pub returns-then-is_none : goal.returns-then-is_none
-returns-then-is_none c =
-    record {
-      is = push_open _ _ (view c.args.self.now) _ (quiet _ _ c.is_none.ensures ∙ c.if-is_none.true) c.push_row.ensures.is;
-      same = c.push_row.ensures.same;
-      left = c.push_row.ensures.left;
-    }
-
-pub returns-else-is_none : goal.returns-else-is_none
-returns-else-is_none c =
-    record {
-      is = push_refused _ _ _ (quiet _ _ c.is_none.ensures ∙ c.if-is_none.false);
-      same = record { tokens = refl; events = refl; reports = refl; pool = refl };
-      left = omega flags;
-    }
+pub returns : goal.returns
+returns c =
+    let h = c.push_event_numbers.ensures in
+    record { is = h.is ∙ ap (λ t. push t c.args.argument (view c.args.self.now)) c.number.ensures; same = h.same; left = h.left }
