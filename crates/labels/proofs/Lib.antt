@@ -1,3 +1,4 @@
+pub mod Stores
 pub mod LabelBytes
 pub mod Turns
 pub mod Seats

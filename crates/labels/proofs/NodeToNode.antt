@@ -1,6 +1,6 @@
 -- The turns of the loop over the judged nodes: what `next_judged` finds is where `nodes_on` comes to. Once a report did
 -- not fit nothing changes.
-use Rattle.std.proofs.Common.{◌≡◌, ℕ, suc, ◌+◌, Bool, true, false, cond, ◌&&◌, Option, None, Some, Err, List, [], ◌∷◌, eqb, drop, refl, sym, ap, ◌∙◌, subst, arith}
+use Rattle.std.proofs.Common.{◌≡◌, ℕ, suc, ◌+◌, Bool, true, false, cond, ◌&&◌, Result, Ok, Err, List, [], ◌∷◌, eqb, drop, refl, sym, ap, ◌∙◌, subst, arith}
 use Rattle.std.proofs.Math.Seq.{drop-drop}
 use Rattle.basics.specs.Word.{low}
 use Rattle.basics.proofs.Tests.{cond-all}
@@ -11,6 +11,7 @@ use Rattle.labels.specs.declared.event.Event.{Event}
 use Rattle.labels.specs.declared.event.Event.TheVariants.{Start, Token as AddToken, Name, Finish, Other}
 use Rattle.labels.specs.declared.report.NoReportRoom.{NoReportRoom}
 use Rattle.labels.specs.declared.scan.Found.{Found}
+use Rattle.labels.specs.declared.scan.NoneFound.{NoneFound}
 use Rattle.labels.specs.Model.{Out, out, On, on, at_seat, walk_at, with_names, ends, breaks, reported, token_on, name_on, event_on, inside_on, settled, passed, solid_after, node_on, judged_kind, found, next_judged, nodes_on}
 
 -- ---------------------------------------------------------------- what is found
@@ -27,14 +28,14 @@ record Starts (es : List Event) (i behind : ℕ) (f : Found) : Type 0 where
   judged : judged_kind f.kind ≡ true
   same : Same es behind (Start f.kind ∷ drop (suc skipped) es) f.behind
 
-abbrev Reached : List Event → ℕ → ℕ → Option Found → Type 0
-Reached es i behind None = Same es behind [] 0
-Reached es i behind (Some f) = Starts es i behind f
+abbrev Reached : List Event → ℕ → ℕ → Result Found NoneFound → Type 0
+Reached es i behind (Err n) = Same es behind [] 0
+Reached es i behind (Ok f) = Starts es i behind f
 
-further : (e : Event) (es : List Event) (i behind b : ℕ) (r : Option Found) → Same (e ∷ es) behind es b → Reached es (i + 1) b r
+further : (e : Event) (es : List Event) (i behind b : ℕ) (r : Result Found NoneFound) → Same (e ∷ es) behind es b → Reached es (i + 1) b r
     → Reached (e ∷ es) i behind r
-further e es i behind b None s r = λ bytes ts first p x. s bytes ts first p x ∙ r bytes ts first p x
-further e es i behind b (Some f) s r =
+further e es i behind b (Err n) s r = λ bytes ts first p x. s bytes ts first p x ∙ r bytes ts first p x
+further e es i behind b (Ok f) s r =
     record {
       skipped = suc r.skipped;
       event = omega (arith, r.event);
@@ -48,7 +49,7 @@ reached [] i behind = λ bytes ts first p x. refl
 reached (Start k ∷ es) i behind = by (judged_kind k) refl (reached es (i + 1) behind)
   where
     by : (b : Bool) → judged_kind k ≡ b → Reached es (i + 1) behind (next_judged es (i + 1) behind)
-        → Reached (Start k ∷ es) i behind (cond b (Some (found i k behind)) (next_judged es (i + 1) behind))
+        → Reached (Start k ∷ es) i behind (cond b (Ok (found i k behind)) (next_judged es (i + 1) behind))
     by true e r = record { skipped = 0; event = omega arith; judged = e; same = λ bytes ts first p x. refl }
     by false e r = further (Start k) es i behind _ _ (λ bytes ts first p x. rw e) r
 reached (AddToken ∷ es) i behind = further AddToken es i behind _ _ (λ bytes ts first p x. refl) (reached es (i + 1) (low (behind + 1)))
@@ -60,7 +61,7 @@ reached (Other ∷ es) i behind = further Other es i behind _ _ (λ bytes ts fir
 
 -- f: what was found. q: the place of its first token. y: what has become of the reports.
 pub nodes_again : (bytes : List ℕ) (ts : List Token) (first : ℕ) (l : List Event) (i : ℕ) (f : Found) (p q : Seat) (x y : Out)
-    → Some f ≡ next_judged (drop i l) i 0 → q ≡ solid_after f.behind ts p → y ≡ node_on bytes ts first f.kind (drop (f.event + 1) l) q x
+    → Ok f ≡ next_judged (drop i l) i 0 → q ≡ solid_after f.behind ts p → y ≡ node_on bytes ts first f.kind (drop (f.event + 1) l) q x
     → nodes_on bytes ts first (drop i l) 0 p x ≡ nodes_on bytes ts first (drop (f.event + 1) l) 0 q y
 unfolding nodes_on
 nodes_again bytes ts first l i f p q x y e t n =
@@ -68,10 +69,10 @@ nodes_again bytes ts first l i f p q x y e t n =
     let rest : drop (suc s.skipped) (drop i l) ≡ drop (f.event + 1) l = drop-drop (suc s.skipped) i l ∙ ap (λ k. drop k l) (omega (arith, s.event)) in
     rw (n, t) (s.same bytes ts first p x ∙ rw (s.judged, rest))
 
-pub nodes_none : (bytes : List ℕ) (ts : List Token) (first : ℕ) (l : List Event) (i : ℕ) (p : Seat) (x : Out)
-    → None ≡ next_judged (drop i l) i 0 → nodes_on bytes ts first (drop i l) 0 p x ≡ x
+pub nodes_none : (bytes : List ℕ) (ts : List Token) (first : ℕ) (l : List Event) (i : ℕ) (n : NoneFound) (p : Seat) (x : Out)
+    → Err n ≡ next_judged (drop i l) i 0 → nodes_on bytes ts first (drop i l) 0 p x ≡ x
 unfolding nodes_on
-nodes_none bytes ts first l i p x e =
+nodes_none bytes ts first l i n p x e =
     let s : Same (drop i l) 0 [] 0 = subst (Reached (drop i l) i 0) (sym e) (reached (drop i l) i 0) in
     s bytes ts first p x
 

@@ -1,6 +1,6 @@
 -- What the code does, step by step, over the numbers of the lent buffers, whatever they are. Each definition is the
 -- model of the function whose contract cites it. No part of the exported promise.
-use Rattle.std.specs.Prelude.{ℕ, zero, suc, ◌+◌, ◌-◌, ◌*◌, Bool, false, cond, not, ◌&&◌, ◌||◌, Option, None, Some, Result, Ok, Err, List, [], ◌∷◌, leb, eqb, length, get_or, take, drop}
+use Rattle.std.specs.Prelude.{ℕ, zero, suc, ◌+◌, ◌-◌, ◌*◌, Bool, false, cond, not, ◌&&◌, ◌||◌, Result, Ok, Err, List, [], ◌∷◌, leb, eqb, length, get_or, take, drop}
 use Rattle.basics.specs.Word.{low}
 use Rattle.definitions.specs.Layout.{EVENT_ROW, EVENT_TAG, EVENT_ARGUMENT, REPORT_ROW, OLD_SETTING}
 use Rattle.definitions.specs.Layout.{START_NODE, ADD_TOKEN, ADD_COMBINED_TOKEN, FINISH_NODE, LINKED_START_NODE}
@@ -17,6 +17,7 @@ use Rattle.labels.specs.declared.event.Event.TheVariants.{Start, Token as AddTok
 use Rattle.labels.specs.declared.report.NoReportRoom.{NoReportRoom}
 use Rattle.labels.specs.declared.node.Walk.{Walk}
 use Rattle.labels.specs.declared.scan.Found.{Found}
+use Rattle.labels.specs.declared.scan.NoneFound.{NoneFound}
 
 -- ---------------------------------------------------------------- the rule
 
@@ -174,10 +175,13 @@ node_on bytes ts first kind es p (out s reports) = settled kind s (inside_on byt
 abbrev pub found : ℕ → ℕ → ℕ → Found
 found i kind behind = record { event = i; kind = kind; behind = behind }
 
+abbrev pub none_found : ℕ → ℕ → NoneFound
+none_found i behind = record { events = i; behind = behind }
+
 -- i: the first of these events. behind: how many tokens that are not trivia were taken.
-unfoldable pub next_judged : List Event → ℕ → ℕ → Option Found
-next_judged [] i behind = None
-next_judged (Start k ∷ es) i behind = let later = next_judged es (i + 1) behind in cond (judged_kind k) (Some (found i k behind)) later
+unfoldable pub next_judged : List Event → ℕ → ℕ → Result Found NoneFound
+next_judged [] i behind = Err (none_found i behind)
+next_judged (Start k ∷ es) i behind = let later = next_judged es (i + 1) behind in cond (judged_kind k) (Ok (found i k behind)) later
 next_judged (AddToken ∷ es) i behind = next_judged es (i + 1) (low (behind + 1))
 next_judged (Name n ∷ es) i behind = next_judged es (i + 1) (low (behind + n))
 next_judged (Finish ∷ es) i behind = next_judged es (i + 1) behind

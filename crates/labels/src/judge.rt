@@ -23,10 +23,10 @@ impl Run<'_> {
         let mut written = written;
         let mut from = 0;
         let mut seat = START;
-        while let Some(found) = next_judged(self.events, from) {
+        while let Ok(found) = next_judged(self.events, from) {
             seat = solid_after(self.tokens, seat, found.behind as usize);
             from = found.event + 1;
-            written = self.judge_node(found.kind, from, seat, reports, written)?;
+            written = self.judge_node(found.kind, from, seat, reports, Ok(written))?;
         }
         Ok(written)
     }
@@ -39,7 +39,7 @@ impl Run<'_> {
     {
         if is_judged(kind) {
             let seat = solid_after(self.tokens, START, 0);
-            self.judge_node(kind, 0, seat, reports, written)
+            self.judge_node(kind, 0, seat, reports, Ok(written))
         } else {
             self.all_nodes(reports, written)
         }

@@ -1,5 +1,5 @@
 // The events inside a node whose Names are judged.
-ghost use Rattle.std.specs.Prelude.{◌≡◌, ◌+◌, ◌<◌, Ok, drop};
+ghost use Rattle.std.specs.Prelude.{◌≡◌, ◌+◌, ◌<◌, drop};
 ghost use Rattle.definitions.specs.Layout.{TWO_TO_64};
 ghost use Rattle.definitions.specs.Token.{tokens_of};
 ghost use Rattle.labels.specs.Model.{out, on, judged_kind, token_on, name_on, event_on, shown, walk_at, inside_on, node_on};
@@ -75,16 +75,16 @@ impl Run<'_> {
     }
 
     // The events from one on, up to the end of the node that they stand in.
-    fn inside(&self, from: usize, seat: Seat, reports: &mut [u32], written: usize) -> Walk
+    fn inside(&self, from: usize, seat: Seat, reports: &mut [u32], names: Names) -> Walk
         ensures { on result reports.new
             ≡ inside_on self.now.bytes.now (tokens_of self.now.tokens.now) self.now.first
-            (drop from (shown self.now.events.now)) (on (walk_at seat (Ok written)) reports.old) }
+            (drop from (shown self.now.events.now)) (on (walk_at seat names) reports.old) }
     {
         let mut walk = Walk {
             depth: 0,
             seat,
             braced: false,
-            names: Ok(written),
+            names,
         };
         for i in from..self.events.len() / EVENT_ROW {
             let event = event_at(self.events, i);
@@ -97,22 +97,23 @@ impl Run<'_> {
     }
 
     // A node of this kind, whose events begin with `from` and whose first token that is not trivia is at `seat`. A
-    // DtPhandle with an LCurly reports nothing: what was written for it is not counted.
+    // DtPhandle with an LCurly reports nothing: what was written for it is not counted. A refusal that is there already
+    // stays as it is.
     pub fn judge_node(
         &self,
         kind: u32,
         from: usize,
         seat: Seat,
         reports: &mut [u32],
-        written: usize,
+        names: Names,
     ) -> Names
         ensures { out result reports.new
             ≡ node_on self.now.bytes.now (tokens_of self.now.tokens.now) self.now.first kind
-            (drop from (shown self.now.events.now)) seat (out (Ok written) reports.old) }
+            (drop from (shown self.now.events.now)) seat (out names reports.old) }
     {
-        let walk = self.inside(from, seat, reports, written);
+        let walk = self.inside(from, seat, reports, names);
         if kind == DT_PHANDLE && walk.braced {
-            Ok(written)
+            names
         } else {
             walk.names
         }

@@ -1,6 +1,6 @@
 // From one judged node to the next. Most events lie outside such nodes, so this counts tokens alone: their places are
 // worked out once a node is found.
-ghost use Rattle.std.specs.Prelude.{◌≡◌, ◌/◌, ◌≤◌, ◌<◌, IfSome, length, drop};
+ghost use Rattle.std.specs.Prelude.{◌≡◌, ◌/◌, ◌≤◌, ◌<◌, IfOk, length, drop};
 ghost use Rattle.definitions.specs.Layout.{EVENT_ROW};
 ghost use Rattle.labels.specs.Model.{shown, next_judged};
 
@@ -18,12 +18,20 @@ pub struct Found {
     pub behind: u32,
 }
 
+// That no judged node is left: how many events there are, and how many raw tokens that are not trivia were taken on the
+// way.
+#[derive(Clone, Copy)]
+pub struct NoneFound {
+    pub events: usize,
+    pub behind: u32,
+}
+
 // The first one from an event on. This loop goes over all events: one index, of a row's first number, is all that it
 // counts up.
-pub fn next_judged(events: &[u32], from: usize) -> Option<Found>
+pub fn next_judged(events: &[u32], from: usize) -> Result<Found, NoneFound>
     requires { from ≤ length events.now / EVENT_ROW }
     ensures value { result ≡ next_judged (drop from (shown events.now)) from 0 }
-    ensures further { IfSome result (λ f. (from ≤ f.event) × (f.event < length events.now / EVENT_ROW)) }
+    ensures further { IfOk result (λ f. (from ≤ f.event) × (f.event < length events.now / EVENT_ROW)) }
 {
     let end = events.len() / EVENT_ROW * EVENT_ROW;
     let mut i = from * EVENT_ROW;
@@ -37,7 +45,7 @@ pub fn next_judged(events: &[u32], from: usize) -> Option<Found>
             if tag == ADD_COMBINED_TOKEN {
                 behind = behind.wrapping_add(argument);
             } else if is_judged(argument) && is_start(tag) {
-                return Some(Found {
+                return Ok(Found {
                     event: i / EVENT_ROW,
                     kind: argument,
                     behind,
@@ -46,5 +54,8 @@ pub fn next_judged(events: &[u32], from: usize) -> Option<Found>
         }
         i += EVENT_ROW;
     }
-    None
+    Err(NoneFound {
+        events: i / EVENT_ROW,
+        behind,
+    })
 }
