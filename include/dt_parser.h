@@ -12,7 +12,7 @@
  * Link: libdt_parser.a, x86-64 Linux; lib/ has it, and `./x prove` proves it from the sources. It needs the C library
  * (memcpy, memmove, memset) and nothing else. `tools/install-library PREFIX` puts library, headers and a file for
  * pkg-config in their places. A call allocates nothing, keeps nothing and has no state: calls in several threads at
- * once are safe if each has its own lent buffers. The deepest inputs take 20 KiB of stack (tests/bench/stack.c): a
+ * once are safe if each has its own lent buffers. The deepest inputs take 21 KiB of stack (tests/bench/stack.c): a
  * thread that calls should have 128 KiB.
  *
  * All rows are of uint32_t numbers. A length is a count of elements (bytes or numbers), never of rows.
