@@ -9,13 +9,13 @@ use layout::word;
 fn is_letter(byte: u8) -> bool
     ensures { result ≡ is_letter byte }
 {
-    byte.is_ascii_alphabetic() || byte == b'_'
+    matches!(byte, b'a'..=b'z' | b'A'..=b'Z' | b'_')
 }
 
 fn is_letter_or_digit(byte: u8) -> bool
     ensures { result ≡ (is_letter byte || is_digit byte) }
 {
-    is_letter(byte) || byte.is_ascii_digit()
+    is_letter(byte) || matches!(byte, b'0'..=b'9')
 }
 
 fn in_label(bytes: &[u8]) -> bool
