@@ -1,13 +1,17 @@
-// Source files of blanks of one byte each, their token rows, and their trees.
-ghost use Rattle.std.specs.Prelude.{◌≡◌, ◌≤◌, ◌/◌, length, IfOk, vec_len};
+// A source file of blanks of one byte each, one more than a call takes, their token rows, and the trees of such files.
+ghost use Rattle.std.specs.Prelude.{◌≡◌, ◌≤◌, ◌/◌, length};
 
 use layout::limit::MOST_TOKEN_NUMBERS;
 use layout::row::{LEAF, TOKEN_ROW, TREE_ROW};
 use layout::row_kind::WHITESPACE;
-use std::alloc::{AllocError, Global};
+use std::array;
+
+const NUMBERS: usize = MOST_TOKEN_NUMBERS + TOKEN_ROW;
+
+const BLANKS: usize = NUMBERS / TOKEN_ROW;
 
 // The numbers of a tree of a root and as many blanks as a call takes.
-pub const TREE: usize = (MOST_TOKEN_NUMBERS / TOKEN_ROW + 1) * TREE_ROW;
+pub const TREE: usize = BLANKS * TREE_ROW;
 
 // A blank's row: its kind, and its length.
 const TOKEN: [u32; TOKEN_ROW] = [WHITESPACE, 1];
@@ -15,17 +19,16 @@ const TOKEN: [u32; TOKEN_ROW] = [WHITESPACE, 1];
 // A blank's leaf: its class, its kind, its width, its count, and the root's row.
 const BLANK_LEAF: [u32; TREE_ROW] = [LEAF, WHITESPACE, 1, 1, 0];
 
-pub fn bytes(alloc: Global, count: usize) -> Result<Vec<u8>, AllocError>
-    ensures { IfOk result (λ v. vec_len v ≡ count) }
-{
-    vec![in alloc; b' '; count]
+fn filled<T: Copy, const N: usize>(x: T) -> [T; N] {
+    [x; N]
 }
 
-// So many numbers of token rows. The last row may be without its length.
-pub fn tokens(alloc: Global, numbers: usize) -> Result<Vec<u32>, AllocError>
-    ensures { IfOk result (λ v. vec_len v ≡ numbers) }
-{
-    (0..numbers).map(|i| TOKEN[i % TOKEN_ROW]).collect(alloc)
+pub fn bytes() -> [u8; BLANKS] {
+    filled(b' ')
+}
+
+pub fn tokens() -> [u32; NUMBERS] {
+    array::from_fn(|i| TOKEN[i % TOKEN_ROW])
 }
 
 // How many rows after the root's are a leaf of one blank, up to the first that is not.
