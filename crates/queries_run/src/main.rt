@@ -69,8 +69,8 @@ fn blank_file(alloc: Global, out: &mut Out, name: &str, query: Query) -> io::Res
         },
         list: 5,
     };
-    let bytes = blanks::bytes(alloc, 65537)?;
-    let tokens = blanks::tokens(alloc, 131074)?;
+    let bytes = blanks::bytes();
+    let tokens = blanks::tokens();
     show(alloc, out, name.as_bytes(), asked, &bytes, &tokens)
 }
 

@@ -1,13 +1,12 @@
 -- What is left is a tail of what was, step by step.
-use Rattle.std.proofs.Common.{rules}
 use Rattle.cases.proofs.Tails.{on, past, by_drop}
 use Rattle.replay.proofs.case.Goals as goal
 
 pub returns-in_err-tokens : goal.returns-in_err-tokens
-returns-in_err-tokens c = search (rules, on, past, by_drop) depth 12
+returns-in_err-tokens c = on (past _ c.until-name.ensures) (on c.read-head.ensures c.numbers.ensures.left)
 
 pub returns-in_err-lent : goal.returns-in_err-lent
-returns-in_err-lent c = search (rules, on, past, by_drop) depth 12
+returns-in_err-lent c = on (past _ c.until-name.ensures) (on c.read-head.ensures (on c.numbers.ensures.left (on (by_drop _ c.bytes.ensures.left) (by_drop _ c.bytes-2.ensures.left))))
 
 pub returns : goal.returns
-returns c = search (rules, on, past, by_drop) depth 12
+returns c = on (past _ c.until-name.ensures) (on c.read-head.ensures (on c.numbers.ensures.left (on (by_drop _ c.bytes.ensures.left) (by_drop _ c.bytes-2.ensures.left))))
