@@ -1,5 +1,5 @@
 // A source file of blanks of one byte each, one more than a call takes, their token rows, and the trees of such files.
-ghost use Rattle.std.specs.Prelude.{◌≡◌, ◌≤◌, ◌/◌, length};
+ghost use Rattle.std.specs.Prelude.{◌≡◌, ◌≤◌, ◌/◌, ◌%◌, All, EachIndex, slice_index, length};
 
 use layout::limit::MOST_TOKEN_NUMBERS;
 use layout::row::{LEAF, TOKEN_ROW, TREE_ROW};
@@ -19,16 +19,29 @@ const TOKEN: [u32; TOKEN_ROW] = [WHITESPACE, 1];
 // A blank's leaf: its class, its kind, its width, its count, and the root's row.
 const BLANK_LEAF: [u32; TREE_ROW] = [LEAF, WHITESPACE, 1, 1, 0];
 
-fn filled<T: Copy, const N: usize>(x: T) -> [T; N] {
+fn filled<T: Copy, const N: usize>(x: T) -> [T; N]
+    ensures { All (λ y. y ≡ x) result }
+{
     [x; N]
 }
 
-pub fn bytes() -> [u8; BLANKS] {
+pub fn bytes() -> [u8; BLANKS]
+    ensures { All (λ b. b ≡ 32) result }
+{
     filled(b' ')
 }
 
-pub fn tokens() -> [u32; NUMBERS] {
-    array::from_fn(|i| TOKEN[i % TOKEN_ROW])
+// A number of the rows: kinds and lengths in turn.
+fn number(i: usize) -> u32
+    ensures { result ≡ i % 2 }
+{
+    TOKEN[i % TOKEN_ROW]
+}
+
+pub fn tokens() -> [u32; NUMBERS]
+    ensures { EachIndex result (λ k. slice_index result k ≡ k % 2) }
+{
+    array::from_fn(|i| number(i))
 }
 
 // How many rows after the root's are a leaf of one blank, up to the first that is not.
