@@ -1,11 +1,7 @@
 -- The tails of a text. Who reads on and then on has read on; what is left is never more than it was.
-use Rattle.std.proofs.Common.{◌≡◌, ℕ, zero, ◌+◌, ◌≤◌, ◌++◌, List, length, drop, min, refl, sym, ap, ◌∙◌, arith, length-append, length-drop}
+use Rattle.std.proofs.Common.{◌≡◌, ℕ, ◌+◌, ◌≤◌, ◌++◌, List, length, drop, min, refl, sym, ap, ◌∙◌, arith, length-append, length-drop}
 use Rattle.std.proofs.lemmas.List.{drop-drop, drop_at, drop_min}
 use Rattle.cases.specs.Scanner.{IsTail}
-
--- nothing is read
-pub whole : {l : List ℕ} → IsTail l l
-whole = record { read = zero; within = omega arith; left = refl }
 
 -- one part is read, and then another
 pub on : {a b c : List ℕ} → IsTail a b → IsTail b c → IsTail a c
