@@ -79,7 +79,12 @@ fn main(rt: HostRuntime) -> io::Result<()> {
     let mut out = BufWriter::new(alloc, rt.stdout())?;
     let list = read::at_most(alloc, rt.stdin(), read::MOST)?;
     each_case(&list, |scanner| case(alloc, &mut out, scanner))?;
-    blank_file(alloc, &mut out, "65537-blanks-caret", Query::Caret(0))?;
-    blank_file(alloc, &mut out, "65537-blanks-range", Query::Range(0, 1))?;
+    let queries = [
+        ("65537-blanks-caret", Query::Caret(0)),
+        ("65537-blanks-range", Query::Range(0, 1)),
+    ];
+    for (name, query) in queries {
+        blank_file(alloc, &mut out, name, query)?;
+    }
     out.flush()
 }
