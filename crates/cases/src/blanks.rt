@@ -4,7 +4,6 @@ ghost use Rattle.std.specs.Prelude.{◌≡◌, ◌≤◌, ◌/◌, ◌%◌, All,
 use layout::limit::MOST_TOKEN_NUMBERS;
 use layout::row::{LEAF, TOKEN_ROW, TREE_ROW};
 use layout::row_kind::WHITESPACE;
-use std::array;
 
 const NUMBERS: usize = MOST_TOKEN_NUMBERS + TOKEN_ROW;
 
@@ -38,10 +37,20 @@ fn number(i: usize) -> u32
     TOKEN[i % TOKEN_ROW]
 }
 
+fn fill(tokens: &mut [u32])
+    ensures { EachIndex tokens.new (λ k. slice_index tokens.new k ≡ k % 2) }
+{
+    for (i, n) in tokens.iter_mut().enumerate() {
+        *n = number(i);
+    }
+}
+
 pub fn tokens() -> [u32; NUMBERS]
     ensures { EachIndex result (λ k. slice_index result k ≡ k % 2) }
 {
-    array::from_fn(|i| number(i))
+    let mut tokens = filled(0);
+    fill(&mut tokens);
+    tokens
 }
 
 // How many rows after the root's are a leaf of one blank, up to the first that is not.
