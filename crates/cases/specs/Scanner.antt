@@ -1,7 +1,13 @@
 -- The text of a list of cases, read from the front.
-use Rattle.std.specs.Prelude.{◌≤◌, length}
+use Rattle.std.specs.Prelude.{◌≡◌, ℕ, ◌≤◌, List, length, drop}
 use Rattle.cases.specs.declared.scan.Scanner.{Scanner}
 
--- who reads on from the old scanner comes to the new one: it has no more left
+-- what is left of a text when so many bytes of its front are read
+pub record IsTail (text rest : List ℕ) : Type 0 where
+  pub read : ℕ
+  pub within : read ≤ length text
+  pub left : rest ≡ drop read text
+
+-- who reads on from the old scanner comes to the new one: what that has left is a tail of what the old one had
 abbrev pub ReadsOn : Scanner → Scanner → Type 0
-ReadsOn old new = length new.rest.now ≤ length old.rest.now
+ReadsOn old new = IsTail old.rest.now new.rest.now

@@ -69,8 +69,8 @@ fn blank_file(alloc: Global, out: &mut Out, name: &str, query: Query) -> io::Res
         },
         list: 5,
     };
-    let bytes = blanks::bytes(alloc, 65537)?;
-    let tokens = blanks::tokens(alloc, 131074)?;
+    let bytes = blanks::bytes();
+    let tokens = blanks::tokens();
     show(alloc, out, name.as_bytes(), asked, &bytes, &tokens)
 }
 
@@ -79,7 +79,12 @@ fn main(rt: HostRuntime) -> io::Result<()> {
     let mut out = BufWriter::new(alloc, rt.stdout())?;
     let list = read::at_most(alloc, rt.stdin(), read::MOST)?;
     each_case(&list, |scanner| case(alloc, &mut out, scanner))?;
-    blank_file(alloc, &mut out, "65537-blanks-caret", Query::Caret(0))?;
-    blank_file(alloc, &mut out, "65537-blanks-range", Query::Range(0, 1))?;
+    let queries = [
+        ("65537-blanks-caret", Query::Caret(0)),
+        ("65537-blanks-range", Query::Range(0, 1)),
+    ];
+    for (name, query) in queries {
+        blank_file(alloc, &mut out, name, query)?;
+    }
     out.flush()
 }

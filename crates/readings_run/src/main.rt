@@ -34,10 +34,12 @@ fn head(token_numbers: usize, bytes: usize, entry: u32, trees: usize) -> Head {
 
 // The answer, the root's row, and how many rows of one blank follow it.
 fn called(alloc: Global, out: &mut Out, name: &str, head: Head) -> io::Result<()> {
-    let bytes = blanks::bytes(alloc, head.bytes)?;
-    let tokens = blanks::tokens(alloc, head.token_numbers)?;
+    let bytes = blanks::bytes();
+    let tokens = blanks::tokens();
     let mut lent = Buffers::new(alloc, head.lent)?;
-    let answer = head.call(&bytes, &tokens, &mut lent);
+    let bytes = &bytes[..head.bytes.min(bytes.len())];
+    let tokens = &tokens[..head.token_numbers.min(tokens.len())];
+    let answer = head.call(bytes, tokens, &mut lent);
     left::show(out, name.as_bytes(), answer, TREE_ROW, &lent)?;
     if answer.number == 0 {
         writeln!(out, "blanks {}", blanks::leaves(&lent.trees))?;

@@ -1,0 +1,15 @@
+-- What is left is a tail of what was, step by step.
+use Rattle.cases.proofs.Tails.{on, past, by_drop}
+use Rattle.texts_run.proofs.case.Goals as goal
+
+pub returns-in_err-tokens : goal.returns-in_err-tokens
+returns-in_err-tokens c = on (past _ c.until-name.ensures) (on c.read-head.ensures (on (by_drop 1 c.bytes.ensures.left) (by_drop _ c.bytes-bytes.ensures.left)))
+
+pub returns-in_err-lent : goal.returns-in_err-lent
+returns-in_err-lent c = on (past _ c.until-name.ensures) (on c.read-head.ensures (on (by_drop 1 c.bytes.ensures.left) (by_drop _ c.bytes-bytes.ensures.left)))
+
+pub returns-in_err-show : goal.returns-in_err-show
+returns-in_err-show c = on (past _ c.until-name.ensures) (on c.read-head.ensures (on (by_drop 1 c.bytes.ensures.left) (by_drop _ c.bytes-bytes.ensures.left)))
+
+pub returns : goal.returns
+returns c = on (past _ c.until-name.ensures) (on c.read-head.ensures (on (by_drop 1 c.bytes.ensures.left) (by_drop _ c.bytes-bytes.ensures.left)))
