@@ -1,5 +1,5 @@
 -- What is left after a parse. No part of the exported promise.
-use Rattle.std.specs.Prelude.{ℕ, ◌*◌, ◌/◌, ◌<◌, ◌≡◌, cond, eqb, take, Result, Ok, Err}
+use Rattle.std.specs.Prelude.{ℕ, ◌*◌, ◌/◌, ◌<◌, ◌≡◌, cond, eqb, take, Option, None, Some, Result, Ok, Err}
 use Rattle.basics.specs.Word.{low}
 use Rattle.definitions.specs.Layout.{TREE_ROW, ERROR_ROW, REPORT_ROW, NO_REPORT_ROOM, NO_TREE_ROOM, TWO_TO_64}
 use Rattle.definitions.specs.Call.{Buffers}
@@ -14,6 +14,7 @@ use Rattle.call.specs.declared.Answer.{Answer}
 use Rattle.call.specs.declared.lent.Input.{Input}
 use Rattle.call.specs.declared.outcome.Filled.{Filled}
 use Rattle.call.specs.declared.outcome.Refusal.{Refusal}
+use Rattle.call.specs.declared.outcome.Ran.{Ran}
 use Rattle.call.specs.Result.{answer_of}
 
 -- a refused answer, and an accepted one
@@ -27,6 +28,14 @@ abbrev pub answer_from : Result Answer Refusal → Answer
 answer_from (Ok a) = a
 answer_from (Err r) = refused_with r.number r.place
 
+-- what a run filled if nothing was refused, or the refusal
+abbrev pub unless : Option Refusal → Filled → Result Filled Refusal
+unless None w = Ok w
+unless (Some s) w = Err s
+
+abbrev pub how_ended : Ran → Result Filled Refusal
+how_ended r = unless r.refused r.filled
+
 -- by what the sink says, with so many numbers of reports and so many expectations
 abbrev pub sunk_with : Sunk → ℕ → ℕ → Answer
 sunk_with (Ok w) r n = accepted_with w.rows w.errors (r / REPORT_ROW) n
@@ -35,7 +44,7 @@ sunk_with (Err e) r n = refused_with NO_TREE_ROOM 0
 -- and by what the reports of the setting's Names come to: 7 comes before 8
 abbrev pub named_with : Sunk → Names → ℕ → Answer
 named_with s (Ok written) n = sunk_with s written n
-named_with s (Err e) n = refused_with NO_REPORT_ROOM e.mark
+named_with s (Err e) n = refused_with NO_REPORT_ROOM e.place
 
 -- the answer's counts are not large numbers
 pub record CountsFit (a : Answer) : Type 0 where

@@ -1,20 +1,20 @@
 // After the parse: sink, the reports of the strict setting, answer, and what every lent buffer holds afterwards.
 ghost use Rattle.std.specs.Prelude.{◌≡◌, ◌≤◌, length, IfOk};
-ghost use Rattle.definitions.specs.Layout.{NO_REPORT_ROOM, NO_TREE_ROOM};
+ghost use Rattle.definitions.specs.Layout.{NO_TREE_ROOM};
 ghost use Rattle.call.specs.Result.{held, SameSlices, result_of};
-ghost use Rattle.call.specs.Ended.{answer_from, AnswerOfParse, Ended};
+ghost use Rattle.call.specs.Ended.{answer_from, how_ended, AnswerOfParse, Ended};
 
 use crate::buffer::clear;
 use crate::lent::{Buffers, Input};
 use crate::{Answer, accepted, refused};
 use labels::judge::report_names;
-use labels::report::NoReportRoom;
-use layout::refusal::{NO_REPORT_ROOM, NO_TREE_ROOM};
+use labels::report::NoMoreReports;
+use layout::refusal::NO_TREE_ROOM;
 use layout::row::{ERROR_ROW, REPORT_ROW, TREE_ROW};
 use layout::word::low32;
 use sink::{NoRoom, Written};
 
-// How far a run filled these buffers, in numbers.
+// How far a run filled these buffers, in numbers, refused or not.
 #[derive(Clone, Copy)]
 pub struct Filled {
     pub events: usize,
@@ -29,13 +29,20 @@ pub struct Refusal {
     pub place: usize,
 }
 
-impl From<NoReportRoom> for Refusal {
-    ghost from_gives = { λ no_room r. r ≡ record { number = NO_REPORT_ROOM; place = no_room.mark } };
+// How a run ended.
+#[derive(Clone, Copy)]
+pub struct Ran {
+    pub filled: Filled,
+    pub refused: Option<Refusal>,
+}
 
-    fn from(no_room: NoReportRoom) -> Refusal {
+impl From<NoMoreReports> for Refusal {
+    ghost from_gives = { λ no_more r. r ≡ record { number = no_more.number; place = no_more.place } };
+
+    fn from(no_more: NoMoreReports) -> Refusal {
         Refusal {
-            number: NO_REPORT_ROOM,
-            place: no_room.mark,
+            number: no_more.number,
+            place: no_more.place,
         }
     }
 }
@@ -83,16 +90,16 @@ fn answer_of_run(
 }
 
 // Events are cleared whole, every other buffer after what is written to it. A refused call's counts are 0.
-pub fn outcome(
-    root_kind: u32,
-    run: Result<Filled, Refusal>,
-    input: Input<'_>,
-    buffers: &mut Buffers<'_>,
-) -> Answer
-    requires { IfOk run (λ w. w.events ≤ length buffers.old.events.now) }
+pub fn outcome(root_kind: u32, ran: Ran, input: Input<'_>, buffers: &mut Buffers<'_>) -> Answer
+    requires { IfOk (how_ended ran) (λ w. w.events ≤ length buffers.old.events.now) }
     ensures same { SameSlices buffers.old buffers.new }
-    ensures ended { Ended root_kind run input.entry (held buffers.old) (result_of result (held buffers.new)) }
+    ensures ended { Ended root_kind (how_ended ran) input.entry (held buffers.old)
+        (result_of result (held buffers.new)) }
 {
+    let run = match ran.refused {
+        None => Ok(ran.filled),
+        Some(refusal) => Err(refusal),
+    };
     let ended = answer_of_run(root_kind, run, input, buffers);
     let a = ended.unwrap_or_else(|r| refused(r.number, r.place));
     clear(buffers.events, 0);

@@ -1,5 +1,5 @@
 -- The entries by number, in the terms of `definitions`. No part of the exported promise.
-use Rattle.std.specs.Prelude.{ℕ, ◌*◌, List, length, take, Option, Some, None, Result, Ok, Err}
+use Rattle.std.specs.Prelude.{ℕ, ◌*◌, cond, eqb, List, length, take, Option, Some, None}
 use Rattle.definitions.specs.Token.{tokens_of}
 use Rattle.definitions.specs.Lex.{lex_after, lex}
 use Rattle.definitions.specs.Call as Call
@@ -11,11 +11,11 @@ use Rattle.definitions.specs.Layout.{TREE_ROW}
 use Rattle.rows.specs.OnePass.{tree_rows_of, found}
 use Rattle.caret.specs.declared.Query.{Query}
 use Rattle.caret.specs.Asked.{query_of}
-use Rattle.layout.specs.Numbers.{refusal_number}
 use Rattle.parser.specs.declared.Refused.{Refused}
 use Rattle.grammar.specs.declared.entry.Run.{Run}
 use Rattle.call.specs.declared.outcome.Filled.{Filled}
 use Rattle.call.specs.declared.outcome.Refusal.{Refusal}
+use Rattle.call.specs.declared.outcome.Ran.{Ran}
 use Rattle.call.specs.declared.Answer.{Answer}
 use Rattle.call.specs.declared.lent.Input.{Input}
 use Rattle.call.specs.declared.lent.Buffers.{Buffers as LentBuffers}
@@ -25,13 +25,15 @@ abbrev pub asked_of : Option Entrypoint → Call.Asked
 asked_of (Some e) = for (entry_for e)
 asked_of None = unknown
 
--- how a run ended: what it filled, or why it stopped
-abbrev pub stopped_by : Run → Option Refused → Result Filled Refusal
-stopped_by r None = Ok (record { events = r.events_written; reports = r.reports_written; pool = r.pool_written })
-stopped_by r (Some s) = Err (record { number = refusal_number s.cause; place = s.place.0 })
+-- how a run ended: what it filled, and why it stopped
+abbrev pub filled_by : Run → Filled
+filled_by r = record { events = r.events_written; reports = r.reports_written; pool = r.pool_written }
 
-abbrev pub ended_as : Run → Result Filled Refusal
-ended_as r = stopped_by r r.refused
+abbrev pub stopped_by : Refused → Option Refusal
+stopped_by s = cond (eqb s.number 0) None (Some (record { number = s.number; place = s.place.0 }))
+
+abbrev pub ended_as : Run → Ran
+ended_as r = record { filled = filled_by r; refused = stopped_by r.refused }
 
 -- the parse of an input for an entry, and the lent buffers as they are at entry
 abbrev pub parse_of : Entrypoint → Input → Buffers → Call.Result

@@ -10,30 +10,41 @@ ghost use Rattle.definitions.specs.Refusal.{accepted};
 ghost use Rattle.definitions.specs.RowCauses.{check_input};
 ghost use Rattle.definitions.specs.Call as Call;
 ghost use Rattle.call.specs.Result.{at_entry, at_exit, held, SameSlices, result_of};
-ghost use Rattle.dt_parser.specs.Asked.{ended_as, parse_of};
+ghost use Rattle.dt_parser.specs.Asked.{stopped_by, ended_as, parse_of};
 
 use crate::entrypoint::{entry_of, root_kind};
 use call::check_input::check;
 use call::lent::{Buffers, Input};
-use call::outcome::{Filled, Refusal, outcome};
+use call::outcome::{Filled, Ran, Refusal, outcome};
 use call::{Answer, refused};
 use grammar::entry::{Entrypoint, Run, run_entry};
 use layout::refusal::UNKNOWN_ENTRY;
+use parser::Refused;
 
-// How far a run came, or why it stopped.
-fn ended(run: Run) -> Result<Filled, Refusal>
+// Number 0 refuses nothing.
+fn refusal(refused: Refused) -> Option<Refusal>
+    ensures { result ≡ stopped_by refused }
+{
+    if refused.number == 0 {
+        return None;
+    }
+    Some(Refusal {
+        number: refused.number,
+        place: refused.place.0,
+    })
+}
+
+// How far a run came, and why it stopped if something was refused.
+fn ended(run: Run) -> Ran
     ensures { result ≡ ended_as run }
 {
-    match run.refused {
-        None => Ok(Filled {
+    Ran {
+        filled: Filled {
             events: run.events_written,
             reports: run.reports_written,
             pool: run.pool_written,
-        }),
-        Some(refused) => Err(Refusal {
-            number: refused.cause.number(),
-            place: refused.place.0,
-        }),
+        },
+        refused: refusal(run.refused),
     }
 }
 

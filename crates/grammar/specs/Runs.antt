@@ -8,7 +8,7 @@ use Rattle.definitions.specs.Grammar.{Entry, whole}
 use Rattle.machine.specs.Machine.{Machine}
 use Rattle.machine.specs.Walk.{walk_prog, unlabelled}
 use Rattle.machine.specs.Outcome.{fresh}
-use Rattle.parser.specs.View.{pending_of, refusal_of, place_of}
+use Rattle.parser.specs.View.{pending_of}
 use Rattle.grammar.specs.declared.entry.Run.{Run}
 
 -- the machine after the run of an entry over these token numbers, in these buffers
@@ -26,8 +26,8 @@ pub record Leaves (m : Machine) (r : Run) (e t l : List ℕ) : Type 0 where
   pub events : record { count = r.events_written; numbers = e } ≡ m.events
   pub reports : record { count = r.reports_written; numbers = t } ≡ m.reports
   pub pool : record { count = r.pool_written; numbers = l } ≡ m.pool
-  pub refusal : refusal_of r.refused ≡ m.refusal
-  pub place : place_of r.refused ≡ m.place
+  pub refusal : r.refused.number ≡ m.refusal
+  pub place : r.refused.place.0 ≡ m.place
 
 abbrev pub Ran : Entry → Both (Bor (List ℕ)) (Bor (List ℕ)) → Both (MutBor (List ℕ)) (MutBor (List ℕ)) → Both (MutBor (List ℕ)) (MutBor (List ℕ)) → Both (MutBor (List ℕ)) (MutBor (List ℕ)) → Run → Type 0
 Ran e tokens events reports pool r =

@@ -14,7 +14,7 @@ use layout::token_kind::TokenKind;
 use layout::{ByteOffset, TokenIndex};
 use names::reference::reference_noamp;
 use parser::pending::Pending;
-use parser::{Parser, Refused};
+use parser::{NOTHING_REFUSED, Parser, Refused};
 
 #[derive(Clone, Copy, PartialEq, Eq)]
 pub enum Entrypoint {
@@ -36,7 +36,7 @@ pub struct Run {
     pub mark: TokenIndex,
     pub mark_byte: ByteOffset,
     pub pending: Pending,
-    pub refused: Option<Refused>,
+    pub refused: Refused,
 }
 
 // One turn of `entry_sourcefile`.
@@ -100,7 +100,7 @@ pub fn run_entry(
         mark: TokenIndex(0),
         mark_byte: ByteOffset(0),
         pending: Pending::none(),
-        refused: None,
+        refused: NOTHING_REFUSED,
     };
     enter(&mut p, entrypoint);
     left_over(&mut p);

@@ -13,7 +13,7 @@ use Rattle.definitions.specs.Refusal.{Refusal, no_report_room, Verdict, accepted
 use Rattle.definitions.specs.Strict.{NameAt, keeps_rule, breaking, name_numbers, names_fit}
 use Rattle.laws.proofs.NamesFound.{Back, forward, forwards}
 use Rattle.layout.specs.Rows.{put_row}
-use Rattle.labels.specs.declared.report.NoReportRoom.{NoReportRoom}
+use Rattle.labels.specs.declared.report.NoMoreReports.{NoMoreReports}
 use Rattle.labels.specs.Model.{breaks, no_room, name_row, put_name, reported}
 use Rattle.labels.specs.Promise.{Leaves}
 use Rattle.labels.proofs.Standing.{Rep, File, pushed, emit, emits}
@@ -78,7 +78,7 @@ module _ (F : File) (covered : byte_count F.all ≡ length F.bytes) where
     pub names : q.names ≡ Err (no_room written m)
 
   -- once refused, nothing changes
-  emits_stopped : (l : List Back) (e : NoReportRoom) (R : List ℕ) → emits F l (record { names = Err e; reports = R }) ≡ record { names = Err e; reports = R }
+  emits_stopped : (l : List Back) (e : NoMoreReports) (R : List ℕ) → emits F l (record { names = Err e; reports = R }) ≡ record { names = Err e; reports = R }
   unfolding emits emit pushed reported
   emits_stopped [] e R = refl
   emits_stopped (x ∷ l) e R =

@@ -6,6 +6,7 @@ pub mod EventRows
 pub mod NextJudged
 pub mod Inside
 pub mod NodeToNode
+pub mod RoomAlone
 pub mod JudgedNodes
 pub mod Taken
 pub mod Told

@@ -9,7 +9,7 @@ use Rattle.definitions.specs.Token.{Token}
 use Rattle.token_rows.specs.declared.token.Seat.{Seat}
 use Rattle.labels.specs.declared.event.Event.{Event}
 use Rattle.labels.specs.declared.event.Event.TheVariants.{Start, Token as AddToken, Name, Finish, Other}
-use Rattle.labels.specs.declared.report.NoReportRoom.{NoReportRoom}
+use Rattle.labels.specs.declared.report.NoMoreReports.{NoMoreReports}
 use Rattle.labels.specs.declared.scan.Found.{Found}
 use Rattle.labels.specs.declared.scan.NoneFound.{NoneFound}
 use Rattle.labels.specs.Model.{Out, out, On, on, at_seat, walk_at, with_names, ends, breaks, reported, token_on, name_on, event_on, inside_on, settled, passed, solid_after, node_on, judged_kind, found, next_judged, nodes_on}
@@ -76,12 +76,12 @@ nodes_none bytes ts first l i n p x e =
     let s : Same (drop i l) 0 [] 0 = subst (Reached (drop i l) i 0) (sym e) (reached (drop i l) i 0) in
     s bytes ts first p x
 
--- ---------------------------------------------------------------- once a report did not fit
+-- ---------------------------------------------------------------- once no more reports are written
 
-abbrev Refused : NoReportRoom → List ℕ → On → Type 0
+abbrev Refused : NoMoreReports → List ℕ → On → Type 0
 Refused e reports (on w reports') = (w.names ≡ Err e) × (reports' ≡ reports)
 
-event_refused : (bytes : List ℕ) (ts : List Token) (first : ℕ) (v : Event) (e : NoReportRoom) (reports : List ℕ) (x : On)
+event_refused : (bytes : List ℕ) (ts : List Token) (first : ℕ) (v : Event) (e : NoMoreReports) (reports : List ℕ) (x : On)
     → Refused e reports x → Refused e reports (event_on bytes ts first v x)
 unfolding event_on token_on name_on reported
 event_refused bytes ts first (Start k) e reports (on w r) h = h
@@ -95,7 +95,7 @@ event_refused bytes ts first (Name n) e reports (on w r) h =
 event_refused bytes ts first Finish e reports (on w r) h = h
 event_refused bytes ts first Other e reports (on w r) h = h
 
-inside_refused : (bytes : List ℕ) (ts : List Token) (first : ℕ) (es : List Event) (e : NoReportRoom) (reports : List ℕ) (x : On)
+inside_refused : (bytes : List ℕ) (ts : List Token) (first : ℕ) (es : List Event) (e : NoMoreReports) (reports : List ℕ) (x : On)
     → Refused e reports x → Refused e reports (inside_on bytes ts first es x)
 unfolding inside_on
 inside_refused bytes ts first [] e reports x h = h
@@ -103,10 +103,10 @@ inside_refused bytes ts first (v ∷ es) e reports (on w r) h =
     cond-all (Refused e reports) (ends v w.depth) {x = on w r} {y = inside_on bytes ts first es (event_on bytes ts first v (on w r))}
     h (inside_refused bytes ts first es e reports (event_on bytes ts first v (on w r)) (event_refused bytes ts first v e reports (on w r) h))
 
-settled_refused : (k : ℕ) (e : NoReportRoom) (reports : List ℕ) (x : On) → Refused e reports x → settled k (Err e) x ≡ out (Err e) reports
+settled_refused : (k : ℕ) (e : NoMoreReports) (reports : List ℕ) (x : On) → Refused e reports x → settled k (Err e) x ≡ out (Err e) reports
 settled_refused k e reports (on w r) (h, q) = rw (h, q) (cond-all (λ (x : Out). x ≡ out (Err e) reports) (eqb k N.DtPhandle && w.braced) refl refl)
 
-pub nodes_refused : (bytes : List ℕ) (ts : List Token) (first : ℕ) (es : List Event) (b : ℕ) (p : Seat) (e : NoReportRoom) (reports : List ℕ)
+pub nodes_refused : (bytes : List ℕ) (ts : List Token) (first : ℕ) (es : List Event) (b : ℕ) (p : Seat) (e : NoMoreReports) (reports : List ℕ)
     → nodes_on bytes ts first es b p (out (Err e) reports) ≡ out (Err e) reports
 unfolding nodes_on node_on
 nodes_refused bytes ts first [] b p e reports = refl

@@ -2,7 +2,7 @@
 -- model of the function whose contract cites it. No part of the exported promise.
 use Rattle.std.specs.Prelude.{ℕ, zero, suc, ◌+◌, ◌-◌, ◌*◌, Bool, false, cond, not, ◌&&◌, ◌||◌, Result, Ok, Err, List, [], ◌∷◌, leb, eqb, length, get_or, take, drop}
 use Rattle.basics.specs.Word.{low}
-use Rattle.definitions.specs.Layout.{EVENT_ROW, EVENT_TAG, EVENT_ARGUMENT, REPORT_ROW, OLD_SETTING}
+use Rattle.definitions.specs.Layout.{EVENT_ROW, EVENT_TAG, EVENT_ARGUMENT, REPORT_ROW, OLD_SETTING, NO_REPORT_ROOM}
 use Rattle.definitions.specs.Layout.{START_NODE, ADD_TOKEN, ADD_COMBINED_TOKEN, FINISH_NODE, LINKED_START_NODE}
 use Rattle.definitions.specs.TokenKind as K
 use Rattle.definitions.specs.NodeKind as N
@@ -14,7 +14,7 @@ use Rattle.layout.specs.Rows.{put_row}
 use Rattle.token_rows.specs.declared.token.Seat.{Seat}
 use Rattle.labels.specs.declared.event.Event.{Event}
 use Rattle.labels.specs.declared.event.Event.TheVariants.{Start, Token as AddToken, Name, Finish, Other}
-use Rattle.labels.specs.declared.report.NoReportRoom.{NoReportRoom}
+use Rattle.labels.specs.declared.report.NoMoreReports.{NoMoreReports}
 use Rattle.labels.specs.declared.node.Walk.{Walk}
 use Rattle.labels.specs.declared.scan.Found.{Found}
 use Rattle.labels.specs.declared.scan.NoneFound.{NoneFound}
@@ -77,16 +77,17 @@ solid_after n ts p = let q = past_solid n (drop p.at ts) p in first_solid (drop 
 
 -- ---------------------------------------------------------------- reports
 
--- what has become of them: how many numbers are written, or the first that did not fit
+-- what has become of them: how many numbers are written, or why no more are
 abbrev pub Names : Type 0
-Names = Result ℕ NoReportRoom
+Names = Result ℕ NoMoreReports
 
 -- the same, with their buffer
 pub data Out : Type 0 where
   out : Names → List ℕ → Out
 
-abbrev pub no_room : ℕ → ℕ → NoReportRoom
-no_room written mark = record { written = written; mark = mark }
+-- the report of this mark did not fit
+abbrev pub no_room : ℕ → ℕ → NoMoreReports
+no_room written mark = record { written = written; number = NO_REPORT_ROOM; place = mark }
 
 abbrev pub name_row : ℕ → ℕ → ℕ → ℕ → List ℕ
 name_row start end mark first = E.not_a_label ∷ start ∷ end ∷ mark ∷ first ∷ 0 ∷ E.no_hint ∷ 0 ∷ 0 ∷ []

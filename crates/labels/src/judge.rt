@@ -1,5 +1,6 @@
 // All judged nodes of a run, one after the other; no such node lies inside another (proofs/JudgedNodes.antt).
-ghost use Rattle.std.specs.Prelude.{◌≡◌, Ok};
+ghost use Rattle.std.specs.Prelude.{◌≡◌, Ok, IfErr};
+ghost use Rattle.definitions.specs.Layout.{NO_REPORT_ROOM};
 ghost use Rattle.definitions.specs.Token.{tokens_of};
 ghost use Rattle.labels.specs.Model.{out, shown, seat, nodes_on, strict_on, names_on};
 ghost use Rattle.labels.specs.Promise.{Promise};
@@ -47,8 +48,8 @@ impl Run<'_> {
 }
 
 // The reports that a setting adds to a run that broke no limit. The first clause says what becomes of any buffers; the
-// second, that for the events of a run it is what the definitions say. written: how many report numbers the run wrote;
-// theirs follow. first: how many expectations it wrote.
+// second, that for the events of a run it is what the definitions say; the third, that a refusal is 7 for any buffers.
+// written: how many report numbers the run wrote; theirs follow. first: how many expectations it wrote.
 pub fn report_names(
     setting: u32,
     root_kind: u32,
@@ -64,6 +65,7 @@ pub fn report_names(
         events.now reports.old }
     ensures promise { Promise setting root_kind bytes.now tokens.now written first
         events.now reports.old result reports.new }
+    ensures room_alone { IfErr result (λ stopped. stopped.number ≡ NO_REPORT_ROOM) }
 {
     if setting == OLD {
         return Ok(written);

@@ -4,31 +4,35 @@ ghost use Rattle.labels.specs.Model.{out, reported};
 
 use layout::hint::NO_HINT;
 use layout::message::NOT_A_LABEL;
+use layout::refusal::NO_REPORT_ROOM;
 use layout::row::REPORT_ROW;
 use layout::rows::put_row;
 use layout::word::low32;
 use token_rows::fit::fits;
 use token_rows::token::Seat;
 
-// Refusal 7: the report that is marked with this token did not fit after the numbers written.
+// Why no more reports are written, after so many numbers: a refusal's number, and its place.
 #[derive(Clone, Copy, PartialEq, Eq, Debug)]
-pub struct NoReportRoom {
+pub struct NoMoreReports {
     pub written: usize,
-    pub mark: usize,
+    pub number: u32,
+    pub place: usize,
 }
 
 // What has become of the reports so far: how many numbers are written.
-pub type Names = Result<usize, NoReportRoom>;
+pub type Names = Result<usize, NoMoreReports>;
 
-// The report of the Name from a place to a byte. Nothing is written after the first that does not fit.
+// The report of the Name from a place to a byte. The first that does not fit is refusal 7, at its mark. A refusal that is
+// there already, whatever its number, stays as it is, and nothing is written after it.
 pub fn push_report(names: Names, reports: &mut [u32], from: Seat, end: u32, first: u32) -> Names
     ensures { out result reports.new ≡ reported from.byte end from.at first (out names reports.old) }
 {
     let written = names?;
     if !fits(reports.len(), written, REPORT_ROW) {
-        return Err(NoReportRoom {
+        return Err(NoMoreReports {
             written,
-            mark: from.at,
+            number: NO_REPORT_ROOM,
+            place: from.at,
         });
     }
     // Message, range, mark, expectations, hint, range of the label.

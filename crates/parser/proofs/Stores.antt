@@ -1,43 +1,11 @@
--- Whether a parser has refused, and stores as the code makes them.
+-- What a step comes to by whether a parser has refused, and stores as the code makes them.
 use Rattle.std.proofs.Common.{ℕ, ◌+◌, ◌≡◌, refl, sym, ◌∙◌, ap, Bool, true, false, List, [], ◌∷◌, length}
-use Rattle.std.specs.Prelude.{Option, Some, None, not, eqb, cond}
-use Rattle.std.specs.Option.{is_some}
+use Rattle.std.specs.Prelude.{eqb, cond}
 use Rattle.std.proofs.lemmas.List.Edits.{sets}
 use Rattle.definitions.specs.Layout.{EVENT_ROW, NO_EVENT_ROOM}
 use Rattle.layout.specs.Rows.{put_row}
-use Rattle.layout.specs.Numbers.{refusal_number}
-use Rattle.layout.specs.declared.refusal.Refusal.{Refusal}
-use Rattle.layout.specs.declared.refusal.Refusal.TheVariants as RefusalV
 use Rattle.machine.specs.Machine.{Machine}
 use Rattle.machine.specs.Machine as M
-use Rattle.parser.specs.View.{refusal_of}
-use Rattle.parser.specs.declared.Refused.{Refused}
-
--- a refusal's number is not 0
-pub refusal_some : (r : Refused) → eqb (refusal_of (Some r)) 0 ≡ false
-refusal_some r = by_cause r.cause
-  where
-    by_cause : (x : Refusal) → eqb (refusal_number x) 0 ≡ false
-    by_cause RefusalV.UnknownEntry = refl
-    by_cause RefusalV.TooLong = refl
-    by_cause RefusalV.OddCount = refl
-    by_cause RefusalV.BadText = refl
-    by_cause RefusalV.TooDeep = refl
-    by_cause RefusalV.NoEventRoom = refl
-    by_cause RefusalV.NoReportRoom = refl
-    by_cause RefusalV.NoTreeRoom = refl
-    by_cause RefusalV.HighByte = refl
-    by_cause RefusalV.Directive = refl
-    by_cause RefusalV.BadKind = refl
-    by_cause RefusalV.ZeroLength = refl
-    by_cause RefusalV.BadEnd = refl
-
--- what `refused.is_none()` says, in the machine's number
-pub quiet : (o : Option Refused) (b : Bool) → is_some o ≡ not b → eqb (refusal_of o) 0 ≡ b
-quiet None true e = refl
-quiet None false e = sym e
-quiet (Some r) true e = refusal_some r ∙ sym e
-quiet (Some r) false e = refusal_some r
 
 -- a step that is taken only where nothing was refused
 pub push_open : (t a : ℕ) (m x : Machine) → eqb m.refusal 0 ≡ true → x ≡ M.push_row t a m → x ≡ M.push t a m

@@ -12,10 +12,9 @@ use Rattle.definitions.specs.Check as C
 use Rattle.machine.specs.Machine.{Pending, Machine}
 use Rattle.machine.specs.Machine as M
 use Rattle.machine.specs.Walk.{Walked, said, walk, marked, unlabelled, walk_rule}
-use Rattle.layout.specs.Numbers.{kind_number, tag_number, refusal_number, hint_number}
+use Rattle.layout.specs.Numbers.{kind_number, hint_number}
 use Rattle.layout.specs.declared.hint.Hint.{Hint}
 use Rattle.parser.specs.declared.pending.Pending.{Pending as CodePending}
-use Rattle.parser.specs.declared.Refused.{Refused}
 use Rattle.parser.specs.declared.Parser.{Parser}
 use Rattle.parser.specs.declared.Ans.{Ans as CodeAns}
 use Rattle.parser.specs.declared.Ans.TheVariants as A
@@ -34,15 +33,6 @@ pending_of x = record { codes = take x.count x.codes; kinds = x.kinds; others = 
 abbrev pub with_arrived : ℕ → Pending → Pending
 with_arrived k x = record { codes = M.arrived k x.codes; kinds = x.kinds; others = x.others }
 
--- the first refusal and its place, or 0 and 0
-abbrev pub refusal_of : Option Refused → ℕ
-refusal_of None = 0
-refusal_of (Some r) = refusal_number r.cause
-
-abbrev pub place_of : Option Refused → ℕ
-place_of None = 0
-place_of (Some r) = r.place.0
-
 abbrev pub view : Parser → Machine
 view p =
     record {
@@ -54,8 +44,8 @@ view p =
       events = record { count = p.events_written; numbers = p.events.now };
       reports = record { count = p.reports_written; numbers = p.reports.now };
       pool = record { count = p.pool_written; numbers = p.pool.now };
-      refusal = refusal_of p.refused;
-      place = place_of p.refused;
+      refusal = p.refused.number;
+      place = p.refused.place.0;
     }
 
 -- the tokens that it reads, and those from the cursor on
@@ -85,7 +75,7 @@ take_first [] m = m
 take_first (t ∷ ts) m = M.took t m
 
 abbrev pub marker_of : Marker → M.Marker
-marker_of m = record { index = m.index; tag = tag_number m.tag }
+marker_of m = record { index = m.index; tag = m.tag }
 
 abbrev pub span_of : TextRange → Span
 span_of r = record { from = r.start.0; to = r.end.0 }

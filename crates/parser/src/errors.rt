@@ -122,7 +122,7 @@ impl<'a> Parser<'a> {
     )
         ensures { Becomes (write_report (message_number message) (hint_of hint) (span_of range) (span_of label)) self.old self.new }
     {
-        if self.refused.is_some() {
+        if !self.is_open() {
             return;
         }
         let index = self.reports_written;

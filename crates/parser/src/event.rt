@@ -1,7 +1,7 @@
 // event.rs, and what parser/mod.rs pushes. The first number of an event row is its tag. The second is a node's kind or a
 // name's count of raw tokens; the third, of a start that `precede` linked forward, how many events further on the new
 // marker is.
-ghost use Rattle.std.specs.Prelude.{◌≡◌, ◌-◌};
+ghost use Rattle.std.specs.Prelude.{◌≡◌, ◌-◌, eqb};
 ghost use Rattle.basics.specs.Word.{low};
 ghost use Rattle.layout.specs.Numbers.{refusal_number, tag_number};
 ghost use Rattle.definitions.specs.Prog.{yes, act, bump as bump_act, bump_name as bump_name_act};
@@ -22,20 +22,34 @@ use token_rows::token::is_one_of_at;
 pub const PAST_THE_END: TokenIndex = TokenIndex(18446744073709551615);
 
 impl<'a> Parser<'a> {
-    // The first refusal stays.
-    pub fn refuse(&mut self, cause: Refusal)
-        ensures becomes { Becomes (refuse_machine (refusal_number cause)) self.old self.new }
+    // Whether nothing was refused so far.
+    pub fn is_open(&self) -> bool
+        ensures { result ≡ eqb self.now.refused.number 0 }
+    {
+        self.refused.number == 0
+    }
+
+    // The first refusal stays. Any number.
+    pub fn refuse_number(&mut self, number: u32)
+        ensures becomes { Becomes (refuse_machine number) self.old self.new }
         ensures ended { tokens_left self.new ≡ 0 }
     {
-        if self.refused.is_none() {
-            self.refused = Some(Refused {
-                cause,
+        if self.is_open() {
+            self.refused = Refused {
+                number,
                 place: self.mark,
-            });
+            };
         }
         // No slice is longer.
         prove!(self.tokens.len() <= PAST_THE_END.0);
         self.cursor = PAST_THE_END;
+    }
+
+    pub fn refuse(&mut self, cause: Refusal)
+        ensures becomes { Becomes (refuse_machine (refusal_number cause)) self.old self.new }
+        ensures ended { tokens_left self.new ≡ 0 }
+    {
+        self.refuse_number(cause.number());
     }
 
     // An event with any number for its tag, if it fits.
@@ -55,7 +69,7 @@ impl<'a> Parser<'a> {
     pub fn push_event_numbers(&mut self, tag: u32, argument: u32)
         ensures { Becomes (push tag argument) self.old self.new }
     {
-        if self.refused.is_none() {
+        if self.is_open() {
             self.push_row_numbers(tag, argument);
         }
     }

@@ -7,6 +7,7 @@ pub mod errors;
 pub mod event;
 pub mod marker;
 pub mod matcher;
+pub mod numbers;
 pub mod pending;
 pub mod source;
 
@@ -15,15 +16,19 @@ ghost use Rattle.definitions.specs.Run.{truth};
 ghost use Rattle.parser.specs.View.{ans_of};
 
 use crate::pending::Pending;
-use layout::refusal::Refusal;
 use layout::{ByteOffset, TokenIndex};
 
-// The first of refusals 5 to 7, and the mark at that moment.
+// The first of refusals 5 to 7, or 0; and the mark at that moment.
 #[derive(Clone, Copy)]
 pub struct Refused {
-    pub cause: Refusal,
+    pub number: u32,
     pub place: TokenIndex,
 }
+
+pub const NOTHING_REFUSED: Refused = Refused {
+    number: 0,
+    place: TokenIndex(0),
+};
 
 #[derive(Drop)]
 pub struct Parser<'a> {
@@ -43,7 +48,7 @@ pub struct Parser<'a> {
     pub mark_byte: ByteOffset,
     // The expectations pushed since the last token or name was taken.
     pub pending: Pending,
-    pub refused: Option<Refused>,
+    pub refused: Refused,
 }
 
 // What a function of the grammar answers where yes and no are not enough.

@@ -8,7 +8,7 @@ ghost use Rattle.machine.specs.Walk.{next_marker};
 ghost use Rattle.parser.specs.View.{view, marker_of, Becomes};
 
 use crate::Parser;
-use layout::event_tag::EventTag;
+use layout::event_tag::{EventTag, LINKED_START_NODE, START_NODE};
 use layout::node_kind::NodeKind;
 use layout::row::{EVENT_ARGUMENT, EVENT_DISTANCE, EVENT_ROW};
 use layout::word::low32;
@@ -17,7 +17,7 @@ use token_rows::fit::fits;
 #[derive(Clone, Copy)]
 pub struct Marker {
     pub index: usize,
-    pub tag: EventTag,
+    pub tag: u32,
 }
 
 // A marker that became a start.
@@ -29,7 +29,7 @@ fn put_start(events: &mut [u32], m: Marker, kind: u32)
     ensures { events.new ≡ put_start (marker_of m) kind events.old }
 {
     if fits(events.len(), m.index, EVENT_ROW) {
-        events[m.index] = m.tag.number();
+        events[m.index] = m.tag;
         events[m.index + EVENT_ARGUMENT] = kind;
     }
 }
@@ -52,7 +52,7 @@ impl<'a> Parser<'a> {
         self.push_event(EventTag::Placeholder, 0);
         Marker {
             index,
-            tag: EventTag::StartNode,
+            tag: START_NODE,
         }
     }
 }
@@ -62,7 +62,7 @@ impl Marker {
         ensures same { result.0 ≡ self }
         ensures becomes { Becomes (complete_machine (marker_of self) (node_number kind)) p.old p.new }
     {
-        if p.refused.is_none() {
+        if p.is_open() {
             put_start(p.events, self, kind.number());
             p.push_row(EventTag::FinishNode, 0);
         }
@@ -85,12 +85,12 @@ impl CompletedMarker {
     {
         let to = p.events_written;
         p.push_event(EventTag::Placeholder, 0);
-        if p.refused.is_none() {
+        if p.is_open() {
             put_link(p.events, self.0.index, to);
         }
         Marker {
             index: to,
-            tag: EventTag::LinkedStartNode,
+            tag: LINKED_START_NODE,
         }
     }
 }

@@ -7,7 +7,7 @@ use layout::token_kind::TokenKind;
 use layout::{ByteOffset, TokenIndex};
 use parser::matcher::Matcher;
 use parser::pending::Pending;
-use parser::{Parser, Refused};
+use parser::{NOTHING_REFUSED, Parser, Refused};
 use std::io;
 use std::io::{BufWriter, Write};
 
@@ -28,13 +28,13 @@ fn parser<'a>(events: &'a mut [u32], reports: &'a mut [u32], pool: &'a mut [u32]
         mark: TokenIndex(0),
         mark_byte: ByteOffset(0),
         pending: Pending::none(),
-        refused: None,
+        refused: NOTHING_REFUSED,
     }
 }
 
 // 0 and 0 where nothing was refused.
-fn say(out: &mut Out, refused: Option<Refused>) -> io::Result<()> {
-    let (number, place) = refused.map_or((0, 0), |r| (r.cause.number(), r.place.0));
+fn say(out: &mut Out, refused: Refused) -> io::Result<()> {
+    let (number, place) = (refused.number, refused.place.0);
     writeln!(out, ": refusal {number}, place {place}")
 }
 

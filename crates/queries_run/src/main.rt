@@ -37,7 +37,17 @@ fn show(
     let mut lent = Buffers::new(alloc, asked.lent)?;
     let mut list = lend::buffer(alloc, asked.list)?;
     let listed = asked.call(bytes, tokens, &mut lent, &mut list);
-    left::show(out, name, listed.answer, lend::TREES, &lent)?;
+    left::show(
+        out,
+        name,
+        listed.answer,
+        lend::TREES,
+        &lent.events,
+        &lent.trees,
+        &lent.errors,
+        &lent.reports,
+        &lent.pool,
+    )?;
     let count = listed.list_count;
     let after = Tail::of(&list, count);
     writeln!(out, "q {count} {after}{}", first(&list, count))

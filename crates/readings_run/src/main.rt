@@ -40,7 +40,17 @@ fn called(alloc: Global, out: &mut Out, name: &str, head: Head) -> io::Result<()
     let bytes = &bytes[..head.bytes.min(bytes.len())];
     let tokens = &tokens[..head.token_numbers.min(tokens.len())];
     let answer = head.call(bytes, tokens, &mut lent);
-    left::show(out, name.as_bytes(), answer, TREE_ROW, &lent)?;
+    left::show(
+        out,
+        name.as_bytes(),
+        answer,
+        TREE_ROW,
+        &lent.events,
+        &lent.trees,
+        &lent.errors,
+        &lent.reports,
+        &lent.pool,
+    )?;
     if answer.number == 0 {
         writeln!(out, "blanks {}", blanks::leaves(&lent.trees))?;
     }

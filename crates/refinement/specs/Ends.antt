@@ -49,7 +49,7 @@ sunk_answer (Err e) r p = refused_at (number_of no_tree_room) (place_of no_tree_
 -- the answer after the parser, which refused nothing, the sink, and the Names' reports: 7 comes before 8
 abbrev pub last_answer : Sunk → Names → Machine → Answer
 last_answer s (Ok written) m = sunk_answer s written m.pool.count
-last_answer s (Err e) m = refused_at NO_REPORT_ROOM e.mark
+last_answer s (Err e) m = refused_at NO_REPORT_ROOM e.place
 
 -- the buffers after all of them; events and pool are as the parser left them
 abbrev pub after_all : List ℕ → List ℕ → List ℕ → Machine → Buffers

@@ -28,7 +28,17 @@ fn case(alloc: Global, out: &mut Out, scanner: &mut Scanner<'_>) -> io::Result<(
     let bytes = scanner.bytes(head.bytes);
     let mut lent = Buffers::new(alloc, head.lent)?;
     let answer = head.call(bytes, &tokens, &mut lent);
-    left::show(out, name, answer, lend::TREES, &lent)
+    left::show(
+        out,
+        name,
+        answer,
+        lend::TREES,
+        &lent.events,
+        &lent.trees,
+        &lent.errors,
+        &lent.reports,
+        &lent.pool,
+    )
 }
 
 // All cases of a list that is read from here.

@@ -4,8 +4,8 @@ ghost use Rattle.definitions.specs.Token.{tokens_of, drop_trivia, past};
 ghost use Rattle.source.specs.Cursor.{after_trivia, after_token};
 
 use layout::{ByteOffset, TokenIndex};
-use parser::Parser;
 use parser::pending::Pending;
+use parser::{NOTHING_REFUSED, Parser};
 
 // A parser that has taken nothing and whose cursor is here. Moves of the cursor write nothing.
 fn standing<'a>(
@@ -31,7 +31,7 @@ fn standing<'a>(
         mark: TokenIndex(0),
         mark_byte: ByteOffset(0),
         pending: Pending::none(),
-        refused: None,
+        refused: NOTHING_REFUSED,
     }
 }
 

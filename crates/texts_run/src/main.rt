@@ -59,7 +59,17 @@ fn case(alloc: Global, out: &mut Out, scanner: &mut Scanner<'_>) -> io::Result<(
     let mut tokens = lend::buffer(alloc, head.token_numbers)?;
     let mut lent = Buffers::new(alloc, head.lent)?;
     let text = parse_text(head, bytes, &mut tokens, &mut lent);
-    left::show(out, name, text.answer, lend::TREES, &lent)?;
+    left::show(
+        out,
+        name,
+        text.answer,
+        lend::TREES,
+        &lent.events,
+        &lent.trees,
+        &lent.errors,
+        &lent.reports,
+        &lent.pool,
+    )?;
     show_rows(out, &tokens, text.token_count)
 }
 

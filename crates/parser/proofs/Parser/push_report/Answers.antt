@@ -6,15 +6,14 @@ use Rattle.std.proofs.lemmas.List.Edits.{sets}
 use Rattle.layout.specs.Numbers.{message_number}
 use Rattle.machine.specs.Machine.{fits}
 use Rattle.parser.specs.View.{view, hint_of, span_of, tokens_left}
-use Rattle.parser.proofs.Stores.{quiet}
 use Rattle.parser.proofs.Reports.{report_off, report_fits, report_full}
 use Rattle.parser.proofs.Parser.push_report.Goals as goal
 use Rattle.parser.proofs.Parser.push_report.Goals.{then-not-fits-via-then-not-fits, then-not-fits-via-else-not-fits+then-not-fits-2}
 
-pub returns-then-is_some : goal.returns-then-is_some
-returns-then-is_some c = record {
+pub returns-then-not-is_open : goal.returns-then-not-is_open
+returns-then-not-is_open c = record {
   is = report_off (message_number c.args.message) (hint_of c.args.hint) (span_of c.args.range) (span_of c.args.label) (view c.args.self.now)
-      (quiet c.args.self.now.refused false (sym c.is_some.ensures ∙ c.if-is_some.true));
+      (sym c.is_open.ensures ∙ c.if-not-is_open.true);
   same = record { tokens = refl; events = refl; reports = refl; pool = refl };
   left = omega flags;
 }
@@ -30,7 +29,7 @@ returns-then-not-fits c =
     ] in
     record {
       is = report_full (message_number c.args.message) (hint_of c.args.hint) (span_of c.args.range) (span_of c.args.label) (view c.args.self.now)
-          ks _ c.codes_of-n.ensures.value (quiet c.args.self.now.refused true (sym c.is_some.ensures ∙ c.if-is_some.false)) full c.refuse.ensures.becomes.is;
+          ks _ c.codes_of-n.ensures.value (sym c.is_open.ensures ∙ c.if-not-is_open.false) full c.refuse.ensures.becomes.is;
       same = c.refuse.ensures.becomes.same;
       left = c.refuse.ensures.becomes.left;
     }
@@ -39,7 +38,7 @@ pub returns : goal.returns
 unfolding tokens_left
 returns c = record {
   is = report_fits (message_number c.args.message) (hint_of c.args.hint) (span_of c.args.range) (span_of c.args.label) (view c.args.self.now)
-      c.codes_of-n.result.now _ _ _ c.codes_of-n.ensures.value (quiet c.args.self.now.refused true (sym c.is_some.ensures ∙ c.if-is_some.false))
+      c.codes_of-n.result.now _ _ _ c.codes_of-n.ensures.value (sym c.is_open.ensures ∙ c.if-not-is_open.false)
       (sym c.fits.ensures.value ∙ c.if-not-fits.false) (sym c.fits-else-not-fits.ensures.value ∙ c.if-not-fits-2.false)
       (rw (c.number.ensures, c.low32.ensures, c.low32-2.ensures, c.pool_count.ensures, c.hint_number.ensures)) c.put_row.ensures
       (c.put_codes.ensures ∙ ap (sets c.args.self.now.pool.now c.args.self.now.pool_written) (c.codes_of.ensures.value ∙ sym c.codes_of-n.ensures.value));
