@@ -7,7 +7,8 @@ import subprocess
 import tarfile
 from collections import namedtuple
 
-COUNTED = re.compile(r"crates/(\w+)/(?:src/([\w/]+)\.rt|proofs/(?:.*/)?(Answers|Invariants)\.antt)$")
+# A crate's tests, src/tests.rt, are not counted.
+COUNTED = re.compile(r"crates/(\w+)/(?:src/(?!tests\.rt)([\w/]+)\.rt|proofs/(?:.*/)?(Answers|Invariants)\.antt)$")
 COMMENT = re.compile(r"(?m)(?:^|(?<=\s))//[^\"\n]*$")
 FUNCTION = re.compile(r"( *)(?:pub(?:\(\w+\))? )?(?:const )?(?:extern \"C\" )?fn (\w+)")
 OWNER = re.compile(r"(?:pub )?(?:unsafe )?(?:impl\b(?:.* for |<.*?> (?=\w)| )?|trait )(\w+)")

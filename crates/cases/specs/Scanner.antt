@@ -11,3 +11,7 @@ pub record IsTail (text rest : List ℕ) : Type 0 where
 -- who reads on from the old scanner comes to the new one: what that has left is a tail of what the old one had
 abbrev pub ReadsOn : Scanner → Scanner → Type 0
 ReadsOn old new = IsTail old.rest.now new.rest.now
+
+-- no more is left than was
+abbrev pub NoLonger : Scanner → Scanner → Type 0
+NoLonger old new = length new.rest.now ≤ length old.rest.now

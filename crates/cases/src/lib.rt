@@ -8,3 +8,5 @@ pub mod list;
 pub mod read;
 pub mod scan;
 pub mod show;
+#[cfg(test)]
+mod tests;

@@ -1,5 +1,5 @@
 // A list of cases, run one after the other.
-ghost use Rattle.cases.specs.Scanner.{ReadsOn};
+ghost use Rattle.cases.specs.Scanner.{NoLonger};
 
 use crate::scan::Scanner;
 use std::io;
@@ -10,7 +10,7 @@ pub fn each_case<F: FnMut(&mut Scanner<'_>) -> io::Result<()>>(
     mut case: F,
 ) -> io::Result<()>
     requires callable { F.IsAlwaysCallable case }
-    requires reads { (f : F) (s : _) (r : _) (t : _) → F.post f s r t → ReadsOn s.now t.now }
+    requires reads { (f : F) (s : _) (r : _) (t : _) → F.post f s r t → NoLonger s.now t.now }
 {
     let mut scanner = Scanner::new(list);
     while !scanner.is_empty() {

@@ -1,8 +1,8 @@
 -- What `run_entry` leaves, by the machine that the entry's whole run comes to.
-use Rattle.std.specs.Prelude.{ℕ, List, ◌≡◌}
+use Rattle.std.specs.Prelude.{ℕ, ◌≤◌, ◌<◌, List, ◌≡◌}
 use Rattle.std.specs.Borrow.{Bor, MutBor}
 use denote.Triple.Both.{Both}
-use Rattle.definitions.specs.Layout.{MOST_OPEN_CALLS}
+use Rattle.definitions.specs.Layout.{MOST_OPEN_CALLS, TOO_DEEP, NO_REPORT_ROOM}
 use Rattle.definitions.specs.Token.{tokens_of}
 use Rattle.definitions.specs.Grammar.{Entry, whole}
 use Rattle.machine.specs.Machine.{Machine}
@@ -32,3 +32,9 @@ pub record Leaves (m : Machine) (r : Run) (e t l : List ℕ) : Type 0 where
 abbrev pub Ran : Entry → Both (Bor (List ℕ)) (Bor (List ℕ)) → Both (MutBor (List ℕ)) (MutBor (List ℕ)) → Both (MutBor (List ℕ)) (MutBor (List ℕ)) → Both (MutBor (List ℕ)) (MutBor (List ℕ)) → Run → Type 0
 Ran e tokens events reports pool r =
     Leaves (run_of e tokens.entry.now events.entry.now reports.entry.now pool.entry.now) r events.exit.now reports.exit.now pool.exit.now
+
+-- the number and the place of what a run refuses: none, which is 0 at place 0, or one of 5 to 7
+pub record MayRefuse (number place : ℕ) : Type 0 where
+  pub none : number ≡ 0 → place ≡ 0
+  pub least : 0 < number → TOO_DEEP ≤ number
+  pub most : number ≤ NO_REPORT_ROOM

@@ -4,7 +4,7 @@ ghost use Rattle.definitions.specs.Prog.{yes};
 ghost use Rattle.definitions.specs.Grammar.{sourcefile_part, entry_sourcefile, entry};
 ghost use Rattle.parser.specs.View.{TakesOne, WalksWithin, WalksWithinOn};
 ghost use Rattle.grammar.specs.Subprograms.{entry_for};
-ghost use Rattle.grammar.specs.Runs.{Ran};
+ghost use Rattle.grammar.specs.Runs.{MayRefuse, Ran};
 
 use crate::preprocessor_directive::{Inside, catch_unmatched_pp_directive};
 use crate::{cells, item, propvalues};
@@ -77,7 +77,8 @@ fn enter(p: &mut Parser, entrypoint: Entrypoint)
     }
 }
 
-// `Entrypoint::parse` up to the sink: the entry from the first token on, and the tokens that it leaves over.
+// `Entrypoint::parse` up to the sink: the entry from the first token on, and the tokens that it leaves over. Nothing is
+// refused, or 5 to 7.
 pub fn run_entry(
     tokens: &[u32],
     events: &mut [u32],
@@ -85,7 +86,8 @@ pub fn run_entry(
     pool: &mut [u32],
     entrypoint: Entrypoint,
 ) -> Run
-    ensures { Ran (entry_for entrypoint) tokens events reports pool result }
+    ensures ran { Ran (entry_for entrypoint) tokens events reports pool result }
+    ensures cause { MayRefuse result.refused.number result.refused.place.0 }
 {
     let mut p = Parser {
         tokens,

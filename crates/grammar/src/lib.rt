@@ -431,3 +431,6 @@ fn eat_pp_directive(p: &mut Parser, allowed: usize, inside: Inside) -> bool
     p.bump();
     true
 }
+
+#[cfg(test)]
+mod tests;

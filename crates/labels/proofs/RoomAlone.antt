@@ -1,7 +1,6 @@
--- Where no report was refused at first, one that does not fit is all that is refused: refusal 7.
-use Rattle.std.proofs.Common.{◌≡◌, ℕ, ◌+◌, ◌-◌, Bool, cond, ◌&&◌, Result, Ok, Err, List, [], ◌∷◌, eqb, length, drop, refl, sym, subst}
+-- Where no report was refused at first, or one for want of room, no other refusal than 7 comes.
+use Rattle.std.proofs.Common.{◌≡◌, ℕ, ◌&&◌, Ok, Err, List, [], ◌∷◌, eqb, length, drop, refl, sym, subst}
 use Rattle.std.specs.Prelude.{IfErr}
-use Rattle.basics.specs.Word.{low}
 use Rattle.basics.proofs.Tests.{cond-all}
 use Rattle.definitions.specs.Layout.{REPORT_ROW, NO_REPORT_ROOM, OLD_SETTING}
 use Rattle.definitions.specs.NodeKind as N
@@ -91,3 +90,12 @@ room_alone setting k bytes ts written first events reports s reports' e =
     subst OfOut (sym e)
     (cond-all OfOut (eqb setting OLD_SETTING) {x = x} {y = strict_on k bytes ts first (shown events) x} tt
     (of_strict k bytes ts first (shown events) x tt))
+
+-- for any report, and for any node: where none was refused before, or 7
+pub report_alone : (start end at first : ℕ) (s t : Names) (reports reports' : List ℕ) → out t reports' ≡ reported start end at first (out s reports)
+    → RoomAlone s → RoomAlone t
+report_alone start end at first s t reports reports' e h = subst OfOut (sym e) (of_reported start end at first (out s reports) h)
+
+pub node_alone : (bytes : List ℕ) (ts : List Token) (first k : ℕ) (es : List Event) (p : Seat) (s t : Names) (reports reports' : List ℕ)
+    → out t reports' ≡ node_on bytes ts first k es p (out s reports) → RoomAlone s → RoomAlone t
+node_alone bytes ts first k es p s t reports reports' e h = subst OfOut (sym e) (of_node bytes ts first k es p (out s reports) h)

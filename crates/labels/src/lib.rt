@@ -11,3 +11,5 @@ pub mod rule;
 pub mod run;
 pub mod scan;
 pub mod seat;
+#[cfg(test)]
+mod tests;

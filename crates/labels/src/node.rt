@@ -1,6 +1,6 @@
 // The events inside a node whose Names are judged.
-ghost use Rattle.std.specs.Prelude.{◌≡◌, ◌+◌, ◌<◌, drop};
-ghost use Rattle.definitions.specs.Layout.{TWO_TO_64};
+ghost use Rattle.std.specs.Prelude.{◌≡◌, ◌+◌, ◌<◌, IfErr, drop};
+ghost use Rattle.definitions.specs.Layout.{NO_REPORT_ROOM, TWO_TO_64};
 ghost use Rattle.definitions.specs.Token.{tokens_of};
 ghost use Rattle.labels.specs.Model.{out, on, judged_kind, token_on, name_on, event_on, shown, walk_at, inside_on, node_on};
 
@@ -98,7 +98,7 @@ impl Run<'_> {
 
     // A node of this kind, whose events begin with `from` and whose first token that is not trivia is at `seat`. A
     // DtPhandle with an LCurly reports nothing: what was written for it is not counted. A refusal that is there already
-    // stays as it is.
+    // stays as it is; where none is, or 7, none but 7 comes of the node.
     pub fn judge_node(
         &self,
         kind: u32,
@@ -107,9 +107,11 @@ impl Run<'_> {
         reports: &mut [u32],
         names: Names,
     ) -> Names
-        ensures { out result reports.new
+        ensures judged { out result reports.new
             ≡ node_on self.now.bytes.now (tokens_of self.now.tokens.now) self.now.first kind
             (drop from (shown self.now.events.now)) seat (out names reports.old) }
+        ensures room_alone { IfErr names (λ before. before.number ≡ NO_REPORT_ROOM)
+            → IfErr result (λ stopped. stopped.number ≡ NO_REPORT_ROOM) }
     {
         let walk = self.inside(from, seat, reports, names);
         if kind == DT_PHANDLE && walk.braced {

@@ -1,5 +1,6 @@
 // A Name's report: message 8, over the Name, with its first token as the mark. Hint, label and expectations are none.
-ghost use Rattle.std.specs.Prelude.{◌≡◌};
+ghost use Rattle.std.specs.Prelude.{◌≡◌, IfErr};
+ghost use Rattle.definitions.specs.Layout.{NO_REPORT_ROOM};
 ghost use Rattle.labels.specs.Model.{out, reported};
 
 use layout::hint::NO_HINT;
@@ -23,9 +24,12 @@ pub struct NoMoreReports {
 pub type Names = Result<usize, NoMoreReports>;
 
 // The report of the Name from a place to a byte. The first that does not fit is refusal 7, at its mark. A refusal that is
-// there already, whatever its number, stays as it is, and nothing is written after it.
+// there already, whatever its number, stays as it is, and nothing is written after it; where none is, or 7, none but 7
+// comes of it.
 pub fn push_report(names: Names, reports: &mut [u32], from: Seat, end: u32, first: u32) -> Names
-    ensures { out result reports.new ≡ reported from.byte end from.at first (out names reports.old) }
+    ensures pushed { out result reports.new ≡ reported from.byte end from.at first (out names reports.old) }
+    ensures room_alone { IfErr names (λ before. before.number ≡ NO_REPORT_ROOM)
+        → IfErr result (λ stopped. stopped.number ≡ NO_REPORT_ROOM) }
 {
     let written = names?;
     if !fits(reports.len(), written, REPORT_ROW) {

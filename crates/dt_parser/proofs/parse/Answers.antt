@@ -15,7 +15,7 @@ outcome-requires c =
     let m = run_of (entry_for a.e) a.input.tokens.now a.buffers.now.events.now a.buffers.now.reports.now a.buffers.now.pool.now in
     let n = left m run.result run.new.events run.new.reports run.new.pool in
     rw (ap how_ended c.ended.ensures ∙ sym (run_ended m run.result run.new.events run.new.reports run.new.pool))
-    (events_inside (entry_for a.e) a.input (held a.buffers.now) n c.requires (left_is m run.result _ _ _ run.ensures) run.auto.events)
+    (events_inside (entry_for a.e) a.input (held a.buffers.now) n c.requires (left_is m run.result _ _ _ run.ensures.ran) run.auto.events)
 
 pub returns-clause-parsed : goal.returns-clause-parsed
 returns-clause-parsed c =
@@ -24,4 +24,4 @@ returns-clause-parsed c =
     let m = run_of (entry_for a.e) a.input.tokens.now a.buffers.now.events.now a.buffers.now.reports.now a.buffers.now.pool.now in
     let n = left m run.result run.new.events run.new.reports run.new.pool in
     let h = rw (c.root_kind.ensures, ap how_ended c.ended.ensures ∙ sym (run_ended m run.result run.new.events run.new.reports run.new.pool)) at c.outcome.ensures.ended in
-    finished (entry_for a.e) a.input (held a.buffers.now) n c.requires (left_is m run.result _ _ _ run.ensures) run.auto.events run.auto.reports run.auto.pool _ h
+    finished (entry_for a.e) a.input (held a.buffers.now) n c.requires (left_is m run.result _ _ _ run.ensures.ran) run.auto.events run.auto.reports run.auto.pool _ h

@@ -11,7 +11,7 @@ returns-in_err-written c =
     let refused : c.from_residual.result ≡ Err c.in_err-written.field-0.0 = search rules in
     rw refused
     (sym (nodes_refused run.bytes.now (tokens_of run.tokens.now) run.first _ 0 _ _ _)
-    ∙ sym (nodes_again run.bytes.now (tokens_of run.tokens.now) run.first (shown run.events.now) c.loop-found.from c.in-Ok.found c.loop-found.seat _ _ _ c.in-Ok.ensures.value c.solid_after-seat.ensures c.in_err-written.ensures)
+    ∙ sym (nodes_again run.bytes.now (tokens_of run.tokens.now) run.first (shown run.events.now) c.loop-found.from c.in-Ok.found c.loop-found.seat _ _ _ c.in-Ok.ensures.value c.solid_after-seat.ensures c.in_err-written.ensures.judged)
     ∙ c.loop-found.invariant.judged)
 
 pub loop-found-preserved : goal.loop-found-preserved
@@ -19,7 +19,7 @@ loop-found-preserved c =
     let run = c.args.self.now in
     record {
       judged =
-          sym (nodes_again run.bytes.now (tokens_of run.tokens.now) run.first (shown run.events.now) c.loop-found.from c.in-Ok.found c.loop-found.seat _ _ _ c.in-Ok.ensures.value c.solid_after-seat.ensures c.in_ok-written.ensures)
+          sym (nodes_again run.bytes.now (tokens_of run.tokens.now) run.first (shown run.events.now) c.loop-found.from c.in-Ok.found c.loop-found.seat _ _ _ c.in-Ok.ensures.value c.solid_after-seat.ensures c.in_ok-written.ensures.judged)
           ∙ c.loop-found.invariant.judged;
       kept = omega (arith, c.judge_node.auto);
       inside = search (rules, c.in-Ok.ensures.further);
