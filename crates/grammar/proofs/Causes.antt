@@ -19,18 +19,13 @@ use Rattle.basics.proofs.Tests.{cond-all}
 use Rattle.machine.specs.Machine.{Machine, Marker, rest, with_refusal, with_events, passed, skip, peek, took, range_at, refuse, expect_code, fits, push_row, push, put_start, complete, precede, bump_first, name_stretch, name_first, write_report}
 use Rattle.machine.specs.Machine as M
 use Rattle.machine.specs.Walk.{Walked, said, at_depth, argument, unlabelled, perform, next_marker, close, marked, goes_on, iter, link, links, chained, walk, walk_rule, walk_prog}
+use Rattle.machine.proofs.Sticky.{turn}
 use Rattle.parser.specs.View.{take_first}
 use Rattle.grammar.specs.Runs.{MayRefuse, run_of}
 
 -- it holds of the machine's refusal and its place
 pub record Holds (P : ℕ → ℕ → Type 0) (m : Machine) : Type 0 where
   pub it : P m.refusal m.place
-
--- the rest of a chain's turn that came to w from m
-abbrev turn : List Token → ℕ → (Machine → Walked) → Marker → Machine → Walked → Walked
-turn ts n f k m w =
-    by_shape w.shape (said w.ans (push PLACEHOLDER 0 w.on))
-    (cond (goes_on ts m w) (links ts n f (next_marker LINKED_START_NODE (complete k w.shape w.on)) (link k w.shape w.on)) (said w.ans (push PLACEHOLDER 0 (link k w.shape w.on))))
 
 module _ (P : ℕ → ℕ → Type 0) (five : (x : ℕ) → P TOO_DEEP x) (six : (x : ℕ) → P NO_EVENT_ROOM x) (seven : (x : ℕ) → P NO_REPORT_ROOM x) (ts : List Token) where
   both : (b : Bool) (x y : Machine) → Holds P x → Holds P y → Holds P (cond b x y)
